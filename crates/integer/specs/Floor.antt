@@ -1,0 +1,23 @@
+-- Division of whole numbers rounded down, toward minus infinity, by a divisor of either sign; what is left; and division rounded up.
+-- That quotient and remainder are the right pair, and the only one, is shown in `proofs/Floor.antt`.
+-- The quotients unfold everywhere, so that `omega` reads them at a numeral; the remainder, which names its dividend twice, only on demand.
+use Prim.Native.Nat.{ℕ, suc, _+_, _-_, _/_}
+use lib.IntN.{ℤ, pos, negsuc, negℤ, _-ℤ_, _*ℤ_}
+
+-- a over d, rounded down: -(n + 1) lies in the block of d numbers below 0 whose place is that of n above 0
+abbrev pub floorBy : ℤ → ℕ → ℤ
+floorBy (pos n) d = pos (n / d)
+floorBy (negsuc n) d = negsuc (n / d)
+
+-- a over d, rounded down; by a negative divisor, both signs are turned first
+abbrev pub floorQuotient : ℤ → ℤ → ℤ
+floorQuotient a (pos d) = floorBy a d
+floorQuotient a (negsuc d) = floorBy (negℤ a) (suc d)
+
+-- what the rounded quotient leaves of a
+unfoldable pub floorRemainder : ℤ → ℤ → ℤ
+floorRemainder a d = a -ℤ floorQuotient a d *ℤ d
+
+-- n over d, rounded up
+abbrev pub ceilingQuotient : ℕ → ℕ → ℕ
+ceilingQuotient n d = (n + (d - 1)) / d

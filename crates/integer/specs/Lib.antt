@@ -1,0 +1,3 @@
+pub mod Floor
+pub mod Fraction
+pub mod Sum

@@ -1,0 +1,20 @@
+-- Lists of whole numbers, the coefficients of a form: their absolute values summed, two lists added, a list scaled.
+use mathlib.Core.List.{List, [], _∷_}
+use Prim.Native.Nat.{ℕ, _+_}
+use lib.IntN.{ℤ, _+ℤ_, _*ℤ_, natAbs}
+
+-- the sum of the absolute values
+abbrev pub sumAbs : List ℤ → ℕ
+sumAbs [] = 0
+sumAbs (x ∷ xs) = natAbs x + sumAbs xs
+
+-- number by number; where one list ends, the other's numbers stand alone
+abbrev pub addLists : List ℤ → List ℤ → List ℤ
+addLists [] ys = ys
+addLists (x ∷ xs) [] = x ∷ xs
+addLists (x ∷ xs) (y ∷ ys) = (x +ℤ y) ∷ addLists xs ys
+
+-- each number times c
+abbrev pub scaleList : ℤ → List ℤ → List ℤ
+scaleList c [] = []
+scaleList c (x ∷ xs) = (c *ℤ x) ∷ scaleList c xs
