@@ -44,7 +44,7 @@ pub remainder-nonneg : (a : ℤ) (m : ℕ) → 0 < m → pos 0 ≤ℤ floorRemai
 remainder-nonneg a m h = rw (remainder-is a m h) (pos-≤ℤ zero-le)
 
 -- ---- by a negative divisor
-remainder-turned : (a : ℤ) (m : ℕ) → floorRemainder a (negsuc m) ≡ negℤ (floorRemainder (negℤ a) (pos (suc m)))
+pub remainder-turned : (a : ℤ) (m : ℕ) → floorRemainder a (negsuc m) ≡ negℤ (floorRemainder (negℤ a) (pos (suc m)))
 unfolding floorRemainder
 remainder-turned a m = ringℤ 3 (λ a q d. a ⊖ q ⊗ neg d ≐ neg (neg a ⊖ q ⊗ d)) tt a (floorBy (negℤ a) (suc m)) (pos (suc m))
 

@@ -6,3 +6,4 @@ pub mod Order
 pub mod Absolute
 pub mod Floor
 pub mod Machine
+pub mod Truncated
