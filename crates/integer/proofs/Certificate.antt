@@ -2,8 +2,10 @@
 -- their differences, squares, natural numbers, sums and products of these, and multiples of the equations. Where (s + 1) · (right - left)
 -- equals it as a polynomial, `certify 𝓞 n (λ x .. . H ⊢ g) s certificate tt` is "the hypotheses H give g". A goal that is an equation
 -- takes a sum of multiples of the equations alone. To find one that fails, state `polynomial (remains ..) ≡ nil` with a hole: it prints what is left.
+use mathlib.Core.Path.{_≡_, subst}
 use mathlib.Core.List.{List, [], _∷_}
 use Prim.Native.Nat.{ℕ, zero, suc}
+use native.Mathlib.Omega.{arith}
 use lib.IntN.{ℤ, pos}
 use Rattle.integer.proofs.Ring.{CommutativeRing, Expression, var, con, _⊕_, _⊖_, _⊗_, Vanishes, vanishing-difference, value, Open, close, ForAll, for-all}
 
@@ -17,7 +19,6 @@ pub record OrderedRing : Type 1 where
   pub nonneg-mul : {x y : ring .Carrier} → nonneg x → nonneg y → nonneg (ring .mul x y)
   pub nonneg-square : (x : ring .Carrier) → nonneg (ring .mul x x)
   pub nonneg-whole : (n : ℕ) → nonneg (ring .whole (pos n))
-  pub nonneg-divide : (n : ℕ) (x : ring .Carrier) → nonneg (ring .mul (ring .whole (pos (suc n))) x) → nonneg x
   pub nonneg-cancel : {x y : ring .Carrier} → le (ring .whole (pos 1)) x → nonneg (ring .mul x y) → nonneg y
   pub antisymmetric : {x y : ring .Carrier} → le x y → le y x → ring .eq x y
   pub le-of-difference : {x y : ring .Carrier} → nonneg (ring .add y (ring .minus x)) → le x y
@@ -77,8 +78,8 @@ remains s (H ⊢ (a ≼ b)) c = con (pos (suc s)) ⊗ (b ⊖ a) ⊖ certified H 
 remains s (H ⊢ (a ≋ b)) c = (a ⊖ b) ⊖ certified-zero H c
 
 module _ (𝓞 : OrderedRing) where
-  open CommutativeRing (𝓞 .ring) using (Carrier as C, eq as _~_, add as _⊹_, mul as _·_, minus, whole, eq-refl as rfl, eq-sym as sy, eq-trans as _⨟_, add-cong, mul-cong, mul-comm, zero-add as z-add, zero-mul)
-  open OrderedRing 𝓞 using (le, nonneg, nonneg-cong, nonneg-add, nonneg-mul, nonneg-square, nonneg-whole, nonneg-divide, le-of-difference, difference-of-le)
+  open CommutativeRing (𝓞 .ring) using (Carrier as C, eq as _~_, add as _⊹_, mul as _·_, minus, whole, eq-refl as rfl, eq-sym as sy, eq-trans as _⨟_, add-cong, mul-cong, mul-comm, zero-add as z-add, zero-mul, whole-add)
+  open OrderedRing 𝓞 using (le, nonneg, nonneg-cong, nonneg-add, nonneg-mul, nonneg-square, nonneg-whole, nonneg-cancel, le-of-difference, difference-of-le)
 
   infix 4 _~_
   infixr 3 _⨟_
@@ -148,10 +149,18 @@ module _ (𝓞 : OrderedRing) where
   certified-zero-is-zero H ρ a (c ⊞ d) = add-cong (certified-zero-is-zero H ρ a c) (certified-zero-is-zero H ρ a d) ⨟ z-add _
   certified-zero-is-zero H ρ a (c ⊠ d) = rfl _
 
+  pub one-le-whole : (n : ℕ) → le (whole (pos 1)) (whole (pos (suc n)))
+  one-le-whole n =
+      le-of-difference
+      (nonneg-cong
+      (vanishing-difference (𝓞 .ring) (whole (pos n) ∷ []) (var 0) ((con (pos 1) ⊕ var 0) ⊖ con (pos 1)) tt
+      ⨟ add-cong (subst (λ m. whole (pos 1) ⊹ whole (pos n) ~ whole (pos m)) (omega arith) (sy (whole-add (pos 1) (pos n)))) (rfl _))
+      (nonneg-whole n))
+
   sequent-follows : (s : ℕ) (q : Sequent) (c : Certificate) (ρ : List C) → Vanishes (remains s q c) → Follows q ρ
   sequent-follows s (H ⊢ (a ≼ b)) c ρ t =
       from-all H ρ _
-      (λ h. le-of-difference (nonneg-divide s _ (nonneg-cong
+      (λ h. le-of-difference (nonneg-cancel (one-le-whole s) (nonneg-cong
       (sy (vanishing-difference (𝓞 .ring) ρ (con (pos (suc s)) ⊗ (b ⊖ a)) (certified H c) t)) (certified-nonneg H ρ h c))))
   sequent-follows s (H ⊢ (a ≋ b)) c ρ t =
       from-all H ρ _

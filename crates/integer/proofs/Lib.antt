@@ -7,3 +7,6 @@ pub mod Absolute
 pub mod Floor
 pub mod Machine
 pub mod Truncated
+pub mod Fraction
+pub mod Bound
+pub mod Sum

@@ -101,7 +101,6 @@ orderedIntegers =
       nonneg-mul = product-nonneg;
       nonneg-square = square-nonneg;
       nonneg-whole = λ n. pos-≤ℤ zero-le;
-      nonneg-divide = λ n x h. nonneg-of-product-left (pos (suc n)) x (pos-<ℤ (omega arith)) h;
       nonneg-cancel = λ {x} {y} h g. nonneg-of-product-left x y (linℤ 1 (λ x. con (pos 1) ⊴ x ⇒ so (con (pos 0) ⊲ x)) x (omega arith) h) g;
       antisymmetric = ≤ℤ-antisym;
       le-of-difference = ≤ℤ-of-difference;

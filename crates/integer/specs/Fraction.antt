@@ -1,5 +1,6 @@
 -- Fractions: "A fraction is two whole numbers, the lower part above 0; whether two are equal, or one is below the other, goes by the
--- cross products." None is reduced. That they are an ordered field is shown in `proofs/Fraction.antt`.
+-- cross products." None is reduced. That they are an ordered field is shown in `proofs/Fraction.antt`; nothing else looks inside the
+-- operations, which therefore stay shut.
 use mathlib.Core.Path.{_≡_}
 use Prim.Native.Nat.{ℕ, zero, suc, _*_, _<_}
 use native.Mathlib.Omega.{arith}
@@ -14,8 +15,8 @@ pub record Fraction : Type 0 where
   pub above : pos 0 <ℤ lower
 
 infix 4 _≈_ _≤ℚ_ _<ℚ_
-infixl 6 _+ℚ_
-infixl 7 _*ℚ_
+infixl 6 _+ℚ_ _-ℚ_
+infixl 7 _*ℚ_ _/ℚ_
 -- equal
 pub record _≈_ (x y : Fraction) : Type 0 where
   pub cross : x .upper *ℤ y .lower ≡ y .upper *ℤ x .lower
@@ -37,7 +38,7 @@ product-above {a = pos m} {b = pos n} h k = ltZ-yes (lt→ltb 0 (m * n) (product
 product-above {a = pos m} {b = negsuc n} h k = absurd (k .lt)
 product-above {a = negsuc m} {b = b} h k = absurd (h .lt)
 
-abbrev pub _+ℚ_ : Fraction → Fraction → Fraction
+unfoldable pub _+ℚ_ : Fraction → Fraction → Fraction
 x +ℚ y =
     record {
       upper = x .upper *ℤ y .lower +ℤ y .upper *ℤ x .lower;
@@ -45,7 +46,7 @@ x +ℚ y =
       above = product-above (x .above) (y .above);
     }
 
-abbrev pub _*ℚ_ : Fraction → Fraction → Fraction
+unfoldable pub _*ℚ_ : Fraction → Fraction → Fraction
 x *ℚ y =
     record {
       upper = x .upper *ℤ y .upper;
@@ -53,7 +54,7 @@ x *ℚ y =
       above = product-above (x .above) (y .above);
     }
 
-abbrev pub negℚ : Fraction → Fraction
+unfoldable pub negℚ : Fraction → Fraction
 negℚ x = record { upper = negℤ (x .upper); lower = x .lower; above = x .above }
 
 -- a whole number over d, as `over z 4096 tt`
@@ -64,11 +65,18 @@ over z d t = record { upper = z; lower = pos d; above = ltZ-yes t }
 abbrev pub whole : ℤ → Fraction
 whole z = over z 1 tt
 
--- lower over upper, both signs turned where the upper part is negative; 0 has no reciprocal, and gets 0
-abbrev pub exchange : ℤ → ℤ → Fraction
+-- u over d turned to d over u, with both signs turned where u is negative. 0 has no reciprocal, and gets 0
+unfoldable pub exchange : ℤ → ℤ → Fraction
 exchange (pos zero) d = whole (pos 0)
 exchange (pos (suc n)) d = over d (suc n) (lt→ltb 0 (suc n) (omega arith))
 exchange (negsuc n) d = over (negℤ d) (suc n) (lt→ltb 0 (suc n) (omega arith))
 
-abbrev pub reciprocal : Fraction → Fraction
+unfoldable pub reciprocal : Fraction → Fraction
 reciprocal x = exchange (x .upper) (x .lower)
+
+-- difference and quotient
+abbrev pub _-ℚ_ : Fraction → Fraction → Fraction
+x -ℚ y = x +ℚ negℚ y
+
+abbrev pub _/ℚ_ : Fraction → Fraction → Fraction
+x /ℚ y = x *ℚ reciprocal y
