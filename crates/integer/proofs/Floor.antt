@@ -20,6 +20,11 @@ pub record IsFloor (a d q r : ℤ) : Type 0 where
   pub side : pos 0 ≤ℤ (r *ℤ d)
   pub small : natAbs r < natAbs d
 
+-- the same but for the remainder's side
+pub record Divides (a d q r : ℤ) : Type 0 where
+  pub total : q *ℤ d +ℤ r ≡ a
+  pub small : natAbs r < natAbs d
+
 -- ---- by a positive divisor: the remainder, as the division of naturals gives it
 abbrev pub remainderBy : ℤ → ℕ → ℕ
 remainderBy (pos n) m = n % m
@@ -36,7 +41,7 @@ floorBy-total (negsuc n) m h =
     (ap pos (omega (arith, div-add-mod' n m, mod-lt n h)))
 
 pub remainder-is : (a : ℤ) (m : ℕ) → 0 < m → floorRemainder a (pos m) ≡ pos (remainderBy a m)
-unfolding floorRemainder
+unfolding floorQuotient floorRemainder
 remainder-is a m h =
     linℤ 3 (λ a p r. p ⊕ r ≗ a ⇒ so (a ⊖ p ≗ r)) a (floorBy a m *ℤ pos m) (pos (remainderBy a m)) (omega arith) (floorBy-total a m h)
 
@@ -45,7 +50,7 @@ remainder-nonneg a m h = rw (remainder-is a m h) (pos-≤ℤ zero-le)
 
 -- ---- by a negative divisor
 pub remainder-turned : (a : ℤ) (m : ℕ) → floorRemainder a (negsuc m) ≡ negℤ (floorRemainder (negℤ a) (pos (suc m)))
-unfolding floorRemainder
+unfolding floorQuotient floorRemainder
 remainder-turned a m = ringℤ 3 (λ a q d. a ⊖ q ⊗ neg d ≐ neg (neg a ⊖ q ⊗ d)) tt a (floorBy (negℤ a) (suc m)) (pos (suc m))
 
 -- ---- the pair divides
@@ -97,12 +102,21 @@ unique-by-positive {a} {m} {q} {r} {q′} {r′} f g =
     (quotient-at-most (pos (suc m)) q r q′ r′ (pos-≤ℤ zero-le) (remainder-from-zero p f) (remainder-below g) e)
     (quotient-at-most (pos (suc m)) q′ r′ q r (pos-≤ℤ zero-le) (remainder-from-zero p g) (remainder-below f) (sym e))
 
-turned : {a : ℤ} {m : ℕ} {q r : ℤ} → IsFloor a (negsuc m) q r → IsFloor (negℤ a) (pos (suc m)) q (negℤ r)
-turned {a} {m} {q} {r} f =
+-- by a negative divisor, with both signs turned
+pub divides-turned : {a : ℤ} {m : ℕ} {q r : ℤ} → Divides a (negsuc m) q r → Divides (negℤ a) (pos (suc m)) q (negℤ r)
+divides-turned {a} {m} {q} {r} f =
     record {
       total = ringℤ 3 (λ q d r. q ⊗ d ⊕ neg r ≐ neg (q ⊗ neg d ⊕ r)) tt q (pos (suc m)) r ∙ ap negℤ (f .total);
-      side = subst (λ z. pos 0 ≤ℤ z) (ringℤ 2 (λ r d. r ⊗ neg d ≐ neg r ⊗ d) tt r (pos (suc m))) (f .side);
       small = rw natAbs-neg (f .small);
+    }
+
+turned : {a : ℤ} {m : ℕ} {q r : ℤ} → IsFloor a (negsuc m) q r → IsFloor (negℤ a) (pos (suc m)) q (negℤ r)
+turned {a} {m} {q} {r} f =
+    let g : Divides (negℤ a) (pos (suc m)) q (negℤ r) = divides-turned (record { total = f .total; small = f .small }) in
+    record {
+      total = g .total;
+      side = subst (λ z. pos 0 ≤ℤ z) (ringℤ 2 (λ r d. r ⊗ neg d ≐ neg r ⊗ d) tt r (pos (suc m))) (f .side);
+      small = g .small;
     }
 
 pub quotient-unique : {a d q r q′ r′ : ℤ} → d ≢ pos 0 → IsFloor a d q r → IsFloor a d q′ r′ → q ≡ q′
@@ -126,6 +140,7 @@ natAbs-floorBy (pos n) m = div-le-self n m
 natAbs-floorBy (negsuc n) m = let h = div-le-self n m in omega arith
 
 pub natAbs-quotient : (a d : ℤ) → natAbs (floorQuotient a d) ≤ natAbs a
+unfolding floorQuotient
 natAbs-quotient a (pos m) = natAbs-floorBy a m
 natAbs-quotient a (negsuc m) = rw natAbs-neg at (natAbs-floorBy (negℤ a) (suc m))
 

@@ -10,3 +10,4 @@ pub mod Truncated
 pub mod Fraction
 pub mod Bound
 pub mod Sum
+mod Examples

@@ -17,12 +17,7 @@ use Rattle.integer.proofs.IntegerRing.{ringℤ}
 use Rattle.integer.proofs.Linear.{linℤ, _⊴_, _⊲_, _≗_, _⇒_, so}
 use Rattle.integer.proofs.Order.{≤-of-pos, pos-≤ℤ, product-nonneg}
 use Rattle.integer.proofs.Absolute.{natAbs-neg, natAbs-within, natAbs-of-fits, above-low-end, fits-of-natAbs}
-use Rattle.integer.proofs.Floor.{floor-unique, remainderBy, remainder-is, remainder-turned, natAbs-remainder}
-
--- q d + r = a with |r| < |d|, whatever the sign of r
-record Divides (a d q r : ℤ) : Type 0 where
-  total : q *ℤ d +ℤ r ≡ a
-  small : natAbs r < natAbs d
+use Rattle.integer.proofs.Floor.{Divides, divides-turned, floor-unique, remainderBy, remainder-is, remainder-turned, natAbs-remainder}
 
 -- q and r are the floor quotient and remainder
 pub record RoundsDown (a d q r : ℤ) : Type 0 where
@@ -80,14 +75,8 @@ module _ {a q r : ℤ} {m : ℕ} (f : Divides a (pos (suc m)) q r) where
       record { quotient = u .0; remainder = u .1 }
 
 -- ---- by a negative one: both signs are turned
-turned : {a q r : ℤ} {m : ℕ} → Divides a (negsuc m) q r → Divides (negℤ a) (pos (suc m)) q (negℤ r)
-turned {a} {q} {r} {m} f =
-    record {
-      total = ringℤ 3 (λ q d r. q ⊗ d ⊕ neg r ≐ neg (q ⊗ neg d ⊕ r)) tt q (pos (suc m)) r ∙ ap negℤ (f .total);
-      small = rw natAbs-neg (f .small);
-    }
-
 turned-back : {a q r : ℤ} {m : ℕ} → RoundsDown (negℤ a) (pos (suc m)) q (negℤ r) → RoundsDown a (negsuc m) q r
+unfolding floorQuotient
 turned-back {a} {q} {r} {m} g =
     record {
       quotient = g .quotient;
@@ -110,7 +99,7 @@ kept-by-negative a (pos zero) n p h = absurd (n refl)
 kept-by-negative a (pos (suc m)) n p h = absurd (above-not-below m p)
 kept-by-negative a (negsuc m) n p h =
     turned-back
-    (down-kept (turned (truncated a (negsuc m) (omega arith)))
+    (down-kept (divides-turned (truncated a (negsuc m) (omega arith)))
     (linℤ 1 (λ r. r ⊴ con (pos 0) ⇒ so (con (pos 0) ⊴ neg r)) (remZ a (negsuc m)) (omega arith) h))
 
 pub moved-by-negative : (a d : ℤ) → d ≢ pos 0 → d ≤ℤ pos 0 → pos 0 <ℤ remZ a d → RoundsDown a d (quotZ a d -ℤ pos 1) (remZ a d +ℤ d)
@@ -119,24 +108,37 @@ moved-by-negative a (pos (suc m)) n p h = absurd (above-not-below m p)
 moved-by-negative a (negsuc m) n p h =
     let r = remZ a (negsuc m) in
     let g =
-    down-moved (turned (truncated a (negsuc m) (omega arith)))
+    down-moved (divides-turned (truncated a (negsuc m) (omega arith)))
     (linℤ 1 (λ r. con (pos 0) ⊲ r ⇒ so (neg r ⊲ con (pos 0))) r (omega arith) h)
     in
     turned-back (subst (λ x. RoundsDown (negℤ a) (pos (suc m)) (quotZ a (negsuc m) -ℤ pos 1) x) (ringℤ 2 (λ r d. neg r ⊕ d ≐ neg (r ⊕ neg d)) tt r (pos (suc m))) g)
 
--- ---- the quotient fits, but for the least number over -1
+-- ---- what fits: every quotient but that of the least number by -1, and every remainder
 mag-of-negative : (n : ℕ) {k : ℕ} → n ≤ suc k → mag (negℤ (pos n)) ≤ k
 mag-of-negative zero h = zero-le
 mag-of-negative (suc n) h = le-of-suc-le-suc h
 
+quotient-by-two-or-more : (n d : ℕ) → suc n / suc (suc d) ≤ n
+quotient-by-two-or-more n d = le-of-suc-le-suc (div-lt-self {n = suc n} {k = suc (suc d)} (omega arith) (omega arith))
+
+pub floorQuotient-fits : (a d : ℤ) → d ≢ negsuc 0 → SFits w64 a → SFits w64 (floorQuotient a d)
+unfolding floorQuotient
+floorQuotient-fits (pos n) (pos d) k f = sfits-le {z = pos n} (div-le-self n d) f
+floorQuotient-fits (negsuc n) (pos d) k f = sfits-le {z = negsuc n} (div-le-self n d) f
+floorQuotient-fits a (negsuc zero) k f = absurd (k refl)
+floorQuotient-fits (pos zero) (negsuc (suc d)) k f = sfits-le {z = pos 0} (div-le-self 0 (suc (suc d))) f
+floorQuotient-fits (pos (suc n)) (negsuc (suc d)) k f =
+    let h = div-le-self n (suc (suc d)) in sfits-le {y = negsuc (n / suc (suc d))} {z = pos (suc n)} (omega arith) f
+floorQuotient-fits (negsuc n) (negsuc (suc d)) k f = sfits-le {z = negsuc n} (quotient-by-two-or-more n d) f
+
 pub quotient-fits : (a d : ℤ) → SFits w64 a → (d ≡ negsuc 0 → SFits w64 (floorQuotient a d)) → SFits w64 (quotZ a d)
+unfolding floorQuotient
 quotient-fits (pos a) (pos d) f g = sfits-le {z = pos a} (div-le-self a d) f
 quotient-fits (pos a) (negsuc d) f g =
     let h = div-le-self a (suc d) in sfits-le {z = pos a} (mag-of-negative (a / suc d) (omega arith)) f
 quotient-fits (negsuc a) (pos d) f g = sfits-le {z = negsuc a} (mag-of-negative (suc a / d) (div-le-self (suc a) d)) f
 quotient-fits (negsuc a) (negsuc zero) f g = g refl
-quotient-fits (negsuc a) (negsuc (suc d)) f g =
-    sfits-le {z = negsuc a} (le-of-suc-le-suc (div-lt-self {n = suc a} {k = suc (suc d)} (omega arith) (omega arith))) f
+quotient-fits (negsuc a) (negsuc (suc d)) f g = sfits-le {z = negsuc a} (quotient-by-two-or-more a d) f
 
 pub remainder-fits : (a d : ℤ) → d ≢ pos 0 → SFits w64 d → SFits w64 (floorRemainder a d)
 remainder-fits a d n f =

@@ -1,6 +1,7 @@
 -- Division of whole numbers rounded down, toward minus infinity, by a divisor of either sign; what is left; and division rounded up.
 -- That quotient and remainder are the right pair, and the only one, is shown in `proofs/Floor.antt`.
--- The quotients unfold everywhere, so that `omega` reads them at a numeral; the remainder, which names its dividend twice, only on demand.
+-- Floor quotient and remainder are shut, so that goals name them: an example that computes says `unfolding floorQuotient floorRemainder`.
+-- The quotient rounded up unfolds everywhere, since `omega` reads it where d is a numeral.
 use Prim.Native.Nat.{ℕ, suc, _+_, _-_, _/_}
 use lib.IntN.{ℤ, pos, negsuc, negℤ, _-ℤ_, _*ℤ_}
 
@@ -10,7 +11,7 @@ floorBy (pos n) d = pos (n / d)
 floorBy (negsuc n) d = negsuc (n / d)
 
 -- a over d, rounded down; by a negative divisor, both signs are turned first
-abbrev pub floorQuotient : ℤ → ℤ → ℤ
+unfoldable pub floorQuotient : ℤ → ℤ → ℤ
 floorQuotient a (pos d) = floorBy a d
 floorQuotient a (negsuc d) = floorBy (negℤ a) (suc d)
 

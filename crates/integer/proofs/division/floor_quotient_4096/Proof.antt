@@ -5,11 +5,12 @@ use lib.IntN.{ℤ, pos, negsuc}
 use lib.Signed.{shrZ, mag-shr}
 use mir.Syntax.{w64}
 use mir.ValLaws.{toZ-ofZ, sfits-le}
-use Rattle.integer.specs.Floor.{floorBy}
+use Rattle.integer.specs.Floor.{floorQuotient}
 use Rattle.integer.proofs.division.floor_quotient_4096.Statement.{statement}
 use Rattle.integer.proofs.division.floor_quotient_4096.Tie as tie
 
-shift-is-floor : (a : ℤ) (m : ℕ) → shrZ a m ≡ floorBy a m
+shift-is-floor : (a : ℤ) (m : ℕ) → shrZ a m ≡ floorQuotient a (pos m)
+unfolding floorQuotient
 shift-is-floor (pos n) m = refl
 shift-is-floor (negsuc n) m = refl
 

@@ -1,0 +1,61 @@
+-- Worked examples: divisions on both sides of 0 by divisors of both signs, and one use each of the solver and of the two provers of orders.
+use mathlib.Core.Path.{_≡_, refl}
+use mathlib.Core.List.{List, [], _∷_, map}
+use native.Mathlib.Omega.{arith}
+use lib.IntN.{ℤ, pos, negsuc, _+ℤ_, _-ℤ_, _*ℤ_}
+use lib.Signed.{_≤ℤ_}
+use Rattle.integer.specs.Floor.{floorQuotient, floorRemainder}
+use Rattle.integer.specs.Fraction.{Fraction, _≤ℚ_, _+ℚ_, _*ℚ_, whole}
+use Rattle.integer.proofs.Ring.{var, con, _⊕_, _⊖_, _⊗_, _≐_}
+use Rattle.integer.proofs.IntegerRing.{ringℤ}
+use Rattle.integer.proofs.Linear.{linℤ, _⊴_, _⇒_, so}
+use Rattle.integer.proofs.Certificate.{certify, sqr, _≼_, _⊢_}
+use Rattle.integer.proofs.Fraction.{orderedFractions}
+
+-- dividend, divisor, quotient and remainder
+record Division : Type 0 where
+  dividend : ℤ
+  divisor : ℤ
+  quotient : ℤ
+  remainder : ℤ
+
+divisions : List Division
+divisions =
+    record { dividend = pos 4095; divisor = pos 4096; quotient = pos 0; remainder = pos 4095 }
+    ∷ record { dividend = negsuc 0; divisor = pos 4096; quotient = negsuc 0; remainder = pos 4095 }
+    ∷ record { dividend = negsuc 4095; divisor = pos 4096; quotient = negsuc 0; remainder = pos 0 }
+    ∷ record { dividend = pos 16777216; divisor = negsuc 12287; quotient = negsuc 1365; remainder = negsuc 8191 }
+    ∷ record { dividend = negsuc 16777215; divisor = negsuc 12287; quotient = pos 1365; remainder = negsuc 4095 }
+    ∷ []
+
+divide : Division → Division
+divide e =
+    record {
+      dividend = e .dividend;
+      divisor = e .divisor;
+      quotient = floorQuotient (e .dividend) (e .divisor);
+      remainder = floorRemainder (e .dividend) (e .divisor);
+    }
+
+divisions-hold : map divide divisions ≡ divisions
+unfolding divisions divide floorQuotient floorRemainder
+divisions-hold = refl
+
+-- an identity of degree 6 in 8 variables
+product-of-squares : (a b c d e f g h : ℤ)
+    → (a *ℤ b *ℤ c +ℤ d *ℤ e *ℤ f +ℤ g *ℤ h) *ℤ (a *ℤ b *ℤ c +ℤ d *ℤ e *ℤ f -ℤ g *ℤ h)
+    ≡ a *ℤ a *ℤ b *ℤ b *ℤ c *ℤ c +ℤ pos 2 *ℤ (a *ℤ b *ℤ c *ℤ d *ℤ e *ℤ f) +ℤ d *ℤ d *ℤ e *ℤ e *ℤ f *ℤ f -ℤ g *ℤ g *ℤ h *ℤ h
+product-of-squares =
+    ringℤ 8
+    (λ a b c d e f g h.
+    (a ⊗ b ⊗ c ⊕ d ⊗ e ⊗ f ⊕ g ⊗ h) ⊗ (a ⊗ b ⊗ c ⊕ d ⊗ e ⊗ f ⊖ g ⊗ h)
+    ≐ a ⊗ a ⊗ b ⊗ b ⊗ c ⊗ c ⊕ con (pos 2) ⊗ (a ⊗ b ⊗ c ⊗ d ⊗ e ⊗ f) ⊕ d ⊗ d ⊗ e ⊗ e ⊗ f ⊗ f ⊖ g ⊗ g ⊗ h ⊗ h)
+    tt
+
+-- 2 x y ≤ x² + y² over fractions, by a square
+twice-product : (x y : Fraction) → whole (pos 2) *ℚ x *ℚ y ≤ℚ x *ℚ x +ℚ y *ℚ y
+twice-product = certify orderedFractions 2 (λ x y. [] ⊢ (con (pos 2) ⊗ x ⊗ y ≼ x ⊗ x ⊕ y ⊗ y)) 0 (sqr (var 0 ⊖ var 1)) tt
+
+-- a linear order over ℤ
+weighted-sum-monotone : (a b c d : ℤ) → a ≤ℤ b → c ≤ℤ d → (a +ℤ pos 2 *ℤ c) ≤ℤ (b +ℤ pos 2 *ℤ d)
+weighted-sum-monotone a b c d = linℤ 4 (λ a b c d. a ⊴ b ⇒ c ⊴ d ⇒ so (a ⊕ con (pos 2) ⊗ c ⊴ b ⊕ con (pos 2) ⊗ d)) a b c d (omega arith)
