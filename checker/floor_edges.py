@@ -1,0 +1,17 @@
+#!/usr/bin/env python3
+"""The lines that the program floor_edges must print, by Python's own division, which rounds down."""
+
+LEAST, GREATEST, MOST = -2**63, 2**63 - 1, 2**64 - 1
+
+DIVIDENDS = [0, 1, -1, 4095, -4095, 4096, -4096, 4097, -4097, 2**60, -2**60, GREATEST, LEAST]
+DIVISORS = [1, -1, 3, -3, 4096, -4096, 2**30, -2**30, GREATEST, LEAST]
+NATURALS = [1, 3, 4095, 4096, 2**30, 2**60, MOST - 1, MOST]
+
+for a in DIVIDENDS:
+    for d in DIVISORS:
+        quotient = a // d if LEAST <= a // d <= GREATEST else "none"
+        print("floor", a, d, quotient, a % d)
+    print("4096", a, a // 4096, a % 4096, abs(a))
+for d in NATURALS:
+    for n in [0] + NATURALS:
+        print("ceiling", n, d, -(-n // d))
