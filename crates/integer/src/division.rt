@@ -21,7 +21,8 @@ pub fn floor_quotient(a: i64, d: i64) -> i64
     }
 }
 
-// What the quotient rounded down leaves of a: on d's side of 0. The machine divides the least number by -1 at no price, so that is set apart.
+// What the quotient rounded down leaves of a: 0, or on d's side of it. The machine has no remainder of the least number by -1, so
+// that divisor is set apart.
 pub fn floor_remainder(a: i64, d: i64) -> i64
     requires { ⌜ d ≢ pos 0 ⌝ }
     ensures { λ r. ⌜ r ≡ floorRemainder a d ⌝ }
