@@ -1,12 +1,12 @@
 -- Absolute values as natural numbers: sums, products, their two ends in ℤ, and what fits an i64. By cases on the signs.
-use mathlib.Core.Path.{_≡_, refl, sym, ap, _∙_, subst}
+use mathlib.Core.Path.{_≡_, refl, ap}
 use mathlib.Core.Bool.{Bool, true, false, not, cond}
 use Prim.Native.Nat.{ℕ, zero, suc, _+_, _-_, _*_, _^_, _≤_, _<_, zero-le}
-use native.Mathlib.Nat.{mul-le-mul, le-trans, le-of-suc-le-suc}
+use native.Mathlib.Nat.{mul-le-mul, le-of-suc-le-suc}
 use native.Mathlib.Omega.{arith}
 use lib.Dec.{T, ltb, ltb→lt, leb→le, le→leb}
 use lib.IntN.{ℤ, pos, negsuc, negℤ, natAbs, subℕ, _+ℤ_, _-ℤ_, _*ℤ_}
-use lib.Signed.{mag, _≤ℤ_, leZ-yes, yes-nonNeg, pos-natAbs}
+use lib.Signed.{_≤ℤ_, leZ-yes, yes-nonNeg, pos-natAbs}
 use mir.Syntax.{w64}
 use mir.Val.{SFits}
 

@@ -1,13 +1,12 @@
 -- Orders and bounds in any ordered ring: a positive factor cancels, and |x| ≤ r, said by two ends, passes through sums, products and
 -- quotients. Each law is one certificate.
-use mathlib.Core.Path.{_≡_, refl, sym, subst}
-use mathlib.Core.List.{List, [], _∷_}
-use Prim.Native.Nat.{ℕ, zero, suc}
-use native.Mathlib.Omega.{arith}
-use lib.IntN.{ℤ, pos, negsuc, negℤ, natAbs, _+ℤ_, _-ℤ_, _*ℤ_}
+use mathlib.Core.Path.{sym, subst}
+use mathlib.Core.List.{[], _∷_}
+use Prim.Native.Nat.{ℕ, suc}
+use lib.IntN.{ℤ, pos, negsuc, negℤ, natAbs, _-ℤ_}
 use lib.Signed.{_≤ℤ_}
 use Rattle.integer.proofs.Ring.{CommutativeRing, con, _⊕_, _⊖_, _⊗_, neg, _≐_, ring}
-use Rattle.integer.proofs.IntegerRing.{ringℤ, negℤ-is-product}
+use Rattle.integer.proofs.IntegerRing.{negℤ-is-product}
 use Rattle.integer.proofs.Certificate.{OrderedRing, certify, hyp, eqn, nat, _⊞_, _⊠_, _≼_, _≋_, _⊢_}
 use Rattle.integer.proofs.Order.{difference-nonneg}
 use Rattle.integer.proofs.Absolute.{natAbs-of-nonneg}

@@ -2,12 +2,12 @@
 -- their differences, squares, natural numbers, sums and products of these, and multiples of the equations. Where (s + 1) · (right - left)
 -- equals it as a polynomial, `certify 𝓞 n (λ x .. . H ⊢ g) s certificate tt` is "the hypotheses H give g". A goal that is an equation
 -- takes a sum of multiples of the equations alone. To find one that fails, state `polynomial (remains ..) ≡ nil` with a hole: it prints what is left.
-use mathlib.Core.Path.{_≡_, subst}
+use mathlib.Core.Path.{subst}
 use mathlib.Core.List.{List, [], _∷_}
 use Prim.Native.Nat.{ℕ, zero, suc}
 use native.Mathlib.Omega.{arith}
-use lib.IntN.{ℤ, pos}
-use Rattle.integer.proofs.Ring.{CommutativeRing, Expression, var, con, _⊕_, _⊖_, _⊗_, Vanishes, vanishing-difference, value, Open, close, ForAll, for-all}
+use lib.IntN.{pos}
+use Rattle.integer.proofs.Ring.{CommutativeRing, Expression, var, con, _⊕_, _⊖_, _⊗_, Vanishes, vanishing-difference, equal-of-difference, value, Open, close, ForAll, for-all}
 
 -- a commutative ring with an order; `nonneg x` is 0 ≤ x, kept apart so that an instance may say it in its simplest way
 pub record OrderedRing : Type 1 where
@@ -116,10 +116,6 @@ module _ (𝓞 : OrderedRing) where
   difference-zero ρ a b h =
       add-cong h (rfl _) ⨟ vanishing-difference (𝓞 .ring) (value (𝓞 .ring) b ρ ∷ []) (var 0 ⊖ var 0) (con (pos 0)) tt
 
-  equal-of-difference : (x y : C) → x ⊹ minus y ~ whole (pos 0) → x ~ y
-  equal-of-difference x y h =
-      vanishing-difference (𝓞 .ring) (x ∷ y ∷ []) (var 0) ((var 0 ⊖ var 1) ⊕ var 1) tt ⨟ add-cong h (rfl y) ⨟ z-add y
-
   gap-nonneg : (h : Relation) (ρ : List C) → Holds h ρ → nonneg (value (𝓞 .ring) (gap h) ρ)
   gap-nonneg (a ≼ b) ρ p = difference-of-le p
   gap-nonneg (a ≋ b) ρ p = nonneg-whole 0
@@ -164,7 +160,7 @@ module _ (𝓞 : OrderedRing) where
       (sy (vanishing-difference (𝓞 .ring) ρ (con (pos (suc s)) ⊗ (b ⊖ a)) (certified H c) t)) (certified-nonneg H ρ h c))))
   sequent-follows s (H ⊢ (a ≋ b)) c ρ t =
       from-all H ρ _
-      (λ h. equal-of-difference _ _ (vanishing-difference (𝓞 .ring) ρ (a ⊖ b) (certified-zero H c) t ⨟ certified-zero-is-zero H ρ h c))
+      (λ h. equal-of-difference (𝓞 .ring) _ _ (vanishing-difference (𝓞 .ring) ρ (a ⊖ b) (certified-zero H c) t ⨟ certified-zero-is-zero H ρ h c))
 
   pub certify : (n : ℕ) (f : Open Sequent n) (s : ℕ) (c : Certificate) → Vanishes (remains s (close n f 0) c)
       → ForAll n (λ ρ. Follows (close n f 0) ρ)

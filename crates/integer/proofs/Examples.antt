@@ -2,14 +2,15 @@
 use mathlib.Core.Path.{_≡_, refl}
 use mathlib.Core.List.{List, [], _∷_, map}
 use native.Mathlib.Omega.{arith}
-use lib.IntN.{ℤ, pos, negsuc, _+ℤ_, _-ℤ_, _*ℤ_}
+use lib.IntN.{ℤ, pos, negsuc, negℤ, _+ℤ_, _-ℤ_, _*ℤ_}
 use lib.Signed.{_≤ℤ_}
 use Rattle.integer.specs.Floor.{floorQuotient, floorRemainder}
 use Rattle.integer.specs.Fraction.{Fraction, _≤ℚ_, _+ℚ_, _*ℚ_, whole}
-use Rattle.integer.proofs.Ring.{var, con, _⊕_, _⊖_, _⊗_, _≐_}
+use Rattle.integer.proofs.Ring.{var, con, _⊕_, _⊖_, _⊗_, neg, _≐_}
 use Rattle.integer.proofs.IntegerRing.{ringℤ}
 use Rattle.integer.proofs.Linear.{linℤ, _⊴_, _⇒_, so}
-use Rattle.integer.proofs.Certificate.{certify, sqr, _≼_, _⊢_}
+use Rattle.integer.proofs.Certificate.{certify, hyp, sqr, _⊞_, _⊠_, _≼_, _⊢_}
+use Rattle.integer.proofs.Order.{orderedIntegers}
 use Rattle.integer.proofs.Fraction.{orderedFractions}
 
 -- dividend, divisor, quotient and remainder
@@ -59,3 +60,9 @@ twice-product = certify orderedFractions 2 (λ x y. [] ⊢ (con (pos 2) ⊗ x �
 -- a linear order over ℤ
 weighted-sum-monotone : (a b c d : ℤ) → a ≤ℤ b → c ≤ℤ d → (a +ℤ pos 2 *ℤ c) ≤ℤ (b +ℤ pos 2 *ℤ d)
 weighted-sum-monotone a b c d = linℤ 4 (λ a b c d. a ⊴ b ⇒ c ⊴ d ⇒ so (a ⊕ con (pos 2) ⊗ c ⊴ b ⊕ con (pos 2) ⊗ d)) a b c d (omega arith)
+
+-- |x| ≤ a and |y| ≤ b give x y ≤ a b, by products of the hypotheses
+product-within : (x y a b : ℤ) → negℤ a ≤ℤ x → x ≤ℤ a → negℤ b ≤ℤ y → y ≤ℤ b → (x *ℤ y) ≤ℤ (a *ℤ b)
+product-within =
+    certify orderedIntegers 4
+    (λ x y a b. (neg a ≼ x) ∷ (x ≼ a) ∷ (neg b ≼ y) ∷ (y ≼ b) ∷ [] ⊢ (x ⊗ y ≼ a ⊗ b)) 1 (hyp 1 ⊠ hyp 2 ⊞ hyp 0 ⊠ hyp 3) tt

@@ -1,9 +1,9 @@
 -- Floor division is the right one: its quotient q and remainder r are the only pair with q d + r = a, r on d's side of 0 and |r| < |d|.
 -- By a positive divisor this is the division of naturals; by a negative one, both signs are turned. Then magnitudes, and rounding up.
 use mathlib.Core.Path.{_≡_, refl, sym, ap, _∙_, subst}
-use mathlib.Core.Logic.{_≢_, _⊎_, inl, inr, ⊎-elim}
+use mathlib.Core.Logic.{_≢_, ⊎-elim}
 use Prim.Native.Nat.{ℕ, zero, suc, _+_, _-_, _*_, _/_, _%_, _≤_, _<_, zero-le}
-use native.Mathlib.Nat.{div-add-mod', mod-lt, div-le-self, suc-mul, le-antisymm, le-of-lt, lt-div-mul-add, div-lt-iff-lt-mul, le-of-mul-le-mul-right, lt-of-mul-lt-mul-right}
+use native.Mathlib.Nat.{div-add-mod', mod-lt, div-le-self, suc-mul, le-antisymm, lt-div-mul-add, div-lt-iff-lt-mul, le-of-mul-le-mul-right, lt-of-mul-lt-mul-right}
 use native.Mathlib.Omega.{arith}
 use lib.IntN.{ℤ, pos, negsuc, negℤ, natAbs, _+ℤ_, _-ℤ_, _*ℤ_}
 use lib.Signed.{_≤ℤ_, _<ℤ_}

@@ -2,15 +2,15 @@
 -- law with a hypothesis a certificate; a lower part cancels, being above 0. Past this file no proof looks at upper and lower parts.
 use mathlib.Core.Path.{_≡_, refl, sym, subst}
 use mathlib.Core.Logic.{_≢_, _⊎_, inl, inr}
-use mathlib.Core.Bool.{Bool, true, false, not}
-use mathlib.Core.List.{List, [], _∷_}
+use mathlib.Core.Bool.{Bool, true, false}
+use mathlib.Core.List.{[], _∷_}
 use Prim.Native.Nat.{ℕ, zero, suc, zero-le}
 use native.Mathlib.Omega.{arith}
 use lib.Dec.{T, ltb}
-use lib.IntN.{ℤ, pos, negsuc, negℤ, _+ℤ_, _*ℤ_}
+use lib.IntN.{ℤ, pos, negsuc, _+ℤ_, _*ℤ_}
 use lib.Signed.{ltZ, _≤ℤ_, _<ℤ_, ltZ-yes, <ℤ-irrefl, clashℤ}
 use Rattle.integer.specs.Fraction.{Fraction, _≈_, _≤ℚ_, _<ℚ_, _+ℚ_, _*ℚ_, negℚ, over, whole, exchange, reciprocal, _/ℚ_}
-use Rattle.integer.proofs.Ring.{CommutativeRing, var, con, _⊕_, _⊖_, _⊗_, neg, _≐_}
+use Rattle.integer.proofs.Ring.{CommutativeRing, var, con, _⊕_, _⊗_, neg, _≐_}
 use Rattle.integer.proofs.IntegerRing.{ringℤ}
 use Rattle.integer.proofs.Linear.{linℤ, _⊴_, _⊲_, _≗_, _⇒_, so}
 use Rattle.integer.proofs.Certificate.{OrderedRing, certify, hyp, eqn, _⊞_, _⊠_, _≼_, _≋_, _⊢_}

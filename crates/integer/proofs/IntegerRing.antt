@@ -15,8 +15,18 @@ pub *ℤ-distributive : (a b c : ℤ) → (a +ℤ b) *ℤ c ≡ a *ℤ c +ℤ b 
 *ℤ-distributive a b c =
     induction (λ a. (a +ℤ b) *ℤ c ≡ a *ℤ c +ℤ b *ℤ c)
     (ap (λ x. x *ℤ c) (+ℤ-idl b) ∙ sym (ap (λ x. x +ℤ b *ℤ c) (zero-*ℤ c) ∙ +ℤ-idl (b *ℤ c)))
-    (λ k h. ap (λ x. x *ℤ c) (sucℤ-+ℤ k b) ∙ sucℤ-*ℤ (k +ℤ b) c ∙ ap (λ x. x +ℤ c) h ∙ swap (k *ℤ c) (b *ℤ c) c ∙ ap (λ x. x +ℤ b *ℤ c) (sym (sucℤ-*ℤ k c)))
-    (λ k h. ap (λ x. x *ℤ c) (predℤ-+ℤ k b) ∙ predℤ-*ℤ (k +ℤ b) c ∙ ap (λ x. x -ℤ c) h ∙ swap (k *ℤ c) (b *ℤ c) (negℤ c) ∙ ap (λ x. x +ℤ b *ℤ c) (sym (predℤ-*ℤ k c)))
+    (λ k h.
+    ap (λ x. x *ℤ c) (sucℤ-+ℤ k b)
+    ∙ sucℤ-*ℤ (k +ℤ b) c
+    ∙ ap (λ x. x +ℤ c) h
+    ∙ swap (k *ℤ c) (b *ℤ c) c
+    ∙ ap (λ x. x +ℤ b *ℤ c) (sym (sucℤ-*ℤ k c)))
+    (λ k h.
+    ap (λ x. x *ℤ c) (predℤ-+ℤ k b)
+    ∙ predℤ-*ℤ (k +ℤ b) c
+    ∙ ap (λ x. x -ℤ c) h
+    ∙ swap (k *ℤ c) (b *ℤ c) (negℤ c)
+    ∙ ap (λ x. x +ℤ b *ℤ c) (sym (predℤ-*ℤ k c)))
     a
   where
     swap : (x y z : ℤ) → x +ℤ y +ℤ z ≡ x +ℤ z +ℤ y
@@ -32,16 +42,34 @@ negℤ-*ℤ : (x y : ℤ) → negℤ x *ℤ y ≡ negℤ (x *ℤ y)
 negℤ-*ℤ x y =
     induction (λ x. negℤ x *ℤ y ≡ negℤ (x *ℤ y))
     (zero-*ℤ y ∙ sym (ap negℤ (zero-*ℤ y)))
-    (λ k h. ap (λ z. z *ℤ y) (negℤ-sucℤ k) ∙ predℤ-*ℤ (negℤ k) y ∙ ap (λ z. z -ℤ y) h ∙ sym (negℤ-+ℤ (k *ℤ y) y) ∙ ap negℤ (sym (sucℤ-*ℤ k y)))
-    (λ k h. ap (λ z. z *ℤ y) (negℤ-predℤ k) ∙ sucℤ-*ℤ (negℤ k) y ∙ ap (λ z. z +ℤ y) h ∙ sym (negℤ-+ℤ (k *ℤ y) (negℤ y) ∙ ap (λ z. negℤ (k *ℤ y) +ℤ z) (negℤ-negℤ y)) ∙ ap negℤ (sym (predℤ-*ℤ k y)))
+    (λ k h.
+    ap (λ z. z *ℤ y) (negℤ-sucℤ k)
+    ∙ predℤ-*ℤ (negℤ k) y
+    ∙ ap (λ z. z -ℤ y) h
+    ∙ sym (negℤ-+ℤ (k *ℤ y) y)
+    ∙ ap negℤ (sym (sucℤ-*ℤ k y)))
+    (λ k h.
+    ap (λ z. z *ℤ y) (negℤ-predℤ k)
+    ∙ sucℤ-*ℤ (negℤ k) y
+    ∙ ap (λ z. z +ℤ y) h
+    ∙ sym (negℤ-+ℤ (k *ℤ y) (negℤ y) ∙ ap (λ z. negℤ (k *ℤ y) +ℤ z) (negℤ-negℤ y))
+    ∙ ap negℤ (sym (predℤ-*ℤ k y)))
     x
 
 pub *ℤ-assoc : (a b c : ℤ) → (a *ℤ b) *ℤ c ≡ a *ℤ (b *ℤ c)
 *ℤ-assoc a b c =
     induction (λ a. (a *ℤ b) *ℤ c ≡ a *ℤ (b *ℤ c))
     (ap (λ x. x *ℤ c) (zero-*ℤ b) ∙ zero-*ℤ c ∙ sym (zero-*ℤ (b *ℤ c)))
-    (λ k h. ap (λ x. x *ℤ c) (sucℤ-*ℤ k b) ∙ *ℤ-distributive (k *ℤ b) b c ∙ ap (λ x. x +ℤ b *ℤ c) h ∙ sym (sucℤ-*ℤ k (b *ℤ c)))
-    (λ k h. ap (λ x. x *ℤ c) (predℤ-*ℤ k b) ∙ *ℤ-distributive (k *ℤ b) (negℤ b) c ∙ ap₂ (λ x y. x +ℤ y) h (negℤ-*ℤ b c) ∙ sym (predℤ-*ℤ k (b *ℤ c)))
+    (λ k h.
+    ap (λ x. x *ℤ c) (sucℤ-*ℤ k b)
+    ∙ *ℤ-distributive (k *ℤ b) b c
+    ∙ ap (λ x. x +ℤ b *ℤ c) h
+    ∙ sym (sucℤ-*ℤ k (b *ℤ c)))
+    (λ k h.
+    ap (λ x. x *ℤ c) (predℤ-*ℤ k b)
+    ∙ *ℤ-distributive (k *ℤ b) (negℤ b) c
+    ∙ ap₂ (λ x y. x +ℤ y) h (negℤ-*ℤ b c)
+    ∙ sym (predℤ-*ℤ k (b *ℤ c)))
     a
 
 abbrev pub ringOfIntegers : CommutativeRing

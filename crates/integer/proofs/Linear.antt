@@ -2,7 +2,7 @@
 -- part; so an order or equation between expressions is one between sums of such parts. `linℤ n (λ x .. . h ⇒ .. ⇒ so g) x .. (omega arith) h ..`
 -- shows g from the hypotheses h. A product of two variables is one unknown: hand over what is known of it as a hypothesis.
 use mathlib.Core.Path.{_≡_, refl, sym, _∙_, ap, ap₂, subst, subst₂}
-use mathlib.Core.List.{List, [], _∷_}
+use mathlib.Core.List.{List}
 use mathlib.Core.Bool.{Bool, true, false}
 use Prim.Native.Nat.{ℕ, zero, suc, _+_, _*_, _≤_, _<_}
 use native.Mathlib.Nat.{le-antisymm}

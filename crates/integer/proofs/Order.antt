@@ -3,16 +3,15 @@
 use mathlib.Core.Path.{_≡_, sym, subst}
 use mathlib.Core.Logic.{_⊎_, inl, inr}
 use mathlib.Core.Bool.{Bool, true, false, not}
-use mathlib.Core.List.{List, [], _∷_}
-use Prim.Native.Nat.{ℕ, zero, suc, _+_, _*_, _≤_, _<_, zero-le}
+use Prim.Native.Nat.{ℕ, zero, suc, _*_, _≤_, _<_, zero-le}
 use native.Mathlib.Omega.{arith}
 use lib.Dec.{T, le→leb, leb→le, lt→ltb, ltb→lt}
-use lib.IntN.{ℤ, pos, negsuc, negℤ, _+ℤ_, _*ℤ_, _-ℤ_}
+use lib.IntN.{ℤ, pos, negsuc, negℤ, _*ℤ_, _-ℤ_}
 use lib.Signed.{ltZ, leZ, _≤ℤ_, _<ℤ_, ltZ-yes, ltZ-no, leZ-yes}
-use Rattle.integer.proofs.Ring.{con, _⊕_, _⊖_, _⊗_, neg, _≐_}
+use Rattle.integer.proofs.Ring.{con, _⊕_, _⊖_, _⊗_, _≐_}
 use Rattle.integer.proofs.IntegerRing.{ringℤ, ringOfIntegers}
 use Rattle.integer.proofs.Linear.{linℤ, _⊴_, _⊲_, _≗_, _⇒_, so}
-use Rattle.integer.proofs.Certificate.{OrderedRing, certify, hyp, _⊞_, _⊠_, _≼_, _⊢_}
+use Rattle.integer.proofs.Certificate.{OrderedRing}
 
 -- ---- linear
 pub ≤ℤ-trans : {a b c : ℤ} → a ≤ℤ b → b ≤ℤ c → a ≤ℤ c
@@ -106,9 +105,3 @@ orderedIntegers =
       le-of-difference = ≤ℤ-of-difference;
       difference-of-le = difference-nonneg;
     }
-
--- |x| ≤ a and |y| ≤ b give x y ≤ a b
-pub product-within : (x y a b : ℤ) → negℤ a ≤ℤ x → x ≤ℤ a → negℤ b ≤ℤ y → y ≤ℤ b → (x *ℤ y) ≤ℤ (a *ℤ b)
-product-within =
-    certify orderedIntegers 4
-    (λ x y a b. (neg a ≼ x) ∷ (x ≼ a) ∷ (neg b ≼ y) ∷ (y ≼ b) ∷ [] ⊢ (x ⊗ y ≼ a ⊗ b)) 1 (hyp 1 ⊠ hyp 2 ⊞ hyp 0 ⊠ hyp 3) tt

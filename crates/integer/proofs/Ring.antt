@@ -193,12 +193,6 @@ module _ (𝓡 : CommutativeRing) where
   path {a} e = subst (λ x. a ~ x) e (rfl a)
 
   -- ---- rearrangements
-  add-middle : (a b c d : C) → (a ⊹ b) ⊹ (c ⊹ d) ~ (a ⊹ c) ⊹ (b ⊹ d)
-  add-middle a b c d =
-      add-assoc a b (c ⊹ d)
-      ⨟ add-cong (rfl a) (sy (add-assoc b c d) ⨟ add-cong (add-comm b c) (rfl d) ⨟ add-assoc c b d)
-      ⨟ sy (add-assoc a c (b ⊹ d))
-
   mul-middle : (a b c d : C) → (a · b) · (c · d) ~ (a · c) · (b · d)
   mul-middle a b c d =
       mul-assoc a b (c · d)
@@ -224,7 +218,7 @@ module _ (𝓡 : CommutativeRing) where
   minus-add b =
       add-cong (minus-mul b) (sy (one-mul b)) ⨟ sy (distributive _ _ b) ⨟ mul-cong (sy (whole-add (negsuc 0) (pos 1))) (rfl b) ⨟ zero-mul b
 
-  equal-of-difference : (a b : C) → a ⊹ minus b ~ whole (pos 0) → a ~ b
+  pub equal-of-difference : (a b : C) → a ⊹ minus b ~ whole (pos 0) → a ~ b
   equal-of-difference a b h =
       sy (add-comm _ _ ⨟ z-add a)
       ⨟ add-cong (rfl a) (sy (minus-add b))

@@ -1,21 +1,21 @@
 -- Dot products of whole-number coefficients with values of any commutative ring, and sums of absolute values: both follow the addition,
 -- scaling, appending and lengthening of lists, by induction; and |dot| is at most the sum of absolutes where the values lie from -1 to 1.
-use mathlib.Core.Path.{_≡_, refl, sym, _∙_, ap, subst}
+use mathlib.Core.Path.{_≡_, sym, _∙_}
 use mathlib.Core.List.{List, [], _∷_, _++_, map}
 use Prim.Native.Nat.{ℕ, zero, suc, _+_, _*_, _≤_, _<_}
-use native.Mathlib.Nat.{add-assoc, add-zero, zero-add, mul-le-mul-left, le-refl}
+use native.Mathlib.Nat.{zero-add}
 use native.Mathlib.Numerals.{add-one}
 use native.Mathlib.Omega.{arith}
 use lib.ListN.{length, getD, take}
 use lib.Seq.{take-suc}
-use lib.IntN.{ℤ, pos, natAbs, _+ℤ_, _*ℤ_}
+use lib.IntN.{ℤ, pos, natAbs}
 use Rattle.integer.specs.Fraction.{Fraction, _≈_, whole, _*ℚ_}
 use Rattle.integer.specs.Sum.{sumAbs, addLists, scaleList, weightedSum}
 use Rattle.integer.proofs.Ring.{CommutativeRing, con, _⊕_, _⊗_, _≐_, ring, first, rest, at}
 use Rattle.integer.proofs.Certificate.{OrderedRing}
 use Rattle.integer.proofs.Absolute.{natAbs-add, natAbs-mul}
 use Rattle.integer.proofs.Bound.{Bound, bound-add, bound-mul, bound-cong, bound-whole}
-use Rattle.integer.proofs.Fraction.{ringOfFractions, ≈-refl, ≈-sym, ≈-trans, +ℚ-cong}
+use Rattle.integer.proofs.Fraction.{ringOfFractions, ≈-refl, ≈-sym, +ℚ-cong}
 
 -- ---- sums of absolute values
 pub sumAbs-append : (xs ys : List ℤ) → sumAbs (xs ++ ys) ≡ sumAbs xs + sumAbs ys

@@ -2,8 +2,8 @@
 -- agree, and otherwise the quotient is one less and the remainder one divisor more. By the uniqueness of the floor pair.
 use mathlib.Core.Path.{_≡_, refl, sym, ap, _∙_, subst}
 use mathlib.Core.Logic.{_≢_}
-use Prim.Native.Nat.{ℕ, zero, suc, _+_, _*_, _/_, _%_, _^_, _≤_, _<_, zero-le}
-use native.Mathlib.Nat.{div-add-mod', mod-lt, div-le-self, div-lt-self, le-trans, le-of-suc-le-suc}
+use Prim.Native.Nat.{ℕ, zero, suc, _/_, _%_, _^_, _≤_, _<_, zero-le}
+use native.Mathlib.Nat.{div-add-mod', mod-lt, div-le-self, div-lt-self, le-of-suc-le-suc}
 use native.Mathlib.Omega.{arith}
 use lib.IntN.{ℤ, pos, negsuc, negℤ, natAbs, _+ℤ_, _-ℤ_, _*ℤ_, negℤ-negℤ}
 use lib.Signed.{mag, quotZ, remZ, _≤ℤ_, _<ℤ_}
@@ -14,7 +14,7 @@ use mir.ValLaws.{sfits-le, toZ-pos}
 use Rattle.integer.specs.Floor.{floorQuotient, floorRemainder}
 use Rattle.integer.proofs.Ring.{con, _⊕_, _⊖_, _⊗_, neg, _≐_}
 use Rattle.integer.proofs.IntegerRing.{ringℤ}
-use Rattle.integer.proofs.Linear.{linℤ, _⊴_, _⊲_, _≗_, _⇒_, so}
+use Rattle.integer.proofs.Linear.{linℤ, _⊴_, _⊲_, _⇒_, so}
 use Rattle.integer.proofs.Order.{≤-of-pos, pos-≤ℤ, product-nonneg}
 use Rattle.integer.proofs.Absolute.{natAbs-neg, natAbs-within, natAbs-of-fits, above-low-end, fits-of-natAbs}
 use Rattle.integer.proofs.Floor.{Divides, divides-turned, floor-unique, remainderBy, remainder-is, remainder-turned, natAbs-remainder}

@@ -5,7 +5,7 @@
 use Prim.Native.Nat.{ℕ, suc, _+_, _-_, _/_}
 use lib.IntN.{ℤ, pos, negsuc, negℤ, _-ℤ_, _*ℤ_}
 
--- a over d, rounded down: -(n + 1) lies in the block of d numbers below 0 whose place is that of n above 0
+-- a over d, rounded down. In blocks of d numbers, n lies in block n / d from 0 up, and -(n + 1) in the same block from -1 down
 abbrev pub floorBy : ℤ → ℕ → ℤ
 floorBy (pos n) d = pos (n / d)
 floorBy (negsuc n) d = negsuc (n / d)

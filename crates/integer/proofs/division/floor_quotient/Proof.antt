@@ -1,9 +1,9 @@
 -- `floor_quotient` meets its contract: the machine's quotient and remainder, and by their signs the four laws of `Truncated`.
-use mathlib.Core.Path.{_≡_, _∙_}
-use lib.IntN.{ℤ, pos, _-ℤ_}
+use mathlib.Core.Path.{_≡_}
+use lib.IntN.{pos, _-ℤ_}
 use lib.Signed.{quotZ, remZ, mag-rem, _<ℤ_, _≤ℤ_}
 use mir.Syntax.{w64}
-use mir.Val.{SFits, toZ, ofZ}
+use mir.Val.{SFits}
 use mir.ValLaws.{toZ-ofZ, sfits-le}
 use Rattle.integer.specs.Floor.{floorQuotient}
 use Rattle.integer.proofs.Machine.{back-as, <ℤ-of-test, ≥ℤ-of-test, bits-above-zero}
@@ -31,21 +31,25 @@ above c = <ℤ-of-test (rw (toZ-ofZ w64 _ (c .before .fits .d)) at (c .if1 .take
 below : (c : tie.Else1) → c .before .args .d ≤ℤ pos 0
 below c = ≥ℤ-of-test (rw (toZ-ofZ w64 _ (c .before .fits .d)) at (c .if1 .left))
 
--- ---- the quotient, moved down by one or kept
-moved-above : (c : tie.Then2) → quotZ (c .before .before .args .a) (c .before .before .args .d) -ℤ pos 1 ≡ floorQuotient (c .before .before .args .a) (c .before .before .args .d)
+-- ---- the quotient moved down by one
+abbrev Moved : tie.Start → Type 0
+Moved s = quotZ (s .args .a) (s .args .d) -ℤ pos 1 ≡ floorQuotient (s .args .a) (s .args .d)
+
+moved-above : (c : tie.Then2) → Moved (c .before .before)
 moved-above c =
     let s = c .before .before in
     moved-by-positive (s .args .a) (s .args .d) (above (c .before))
     (<ℤ-of-test (rw (toZ-ofZ w64 _ (s .fits .a), toZ-ofZ w64 _ (s .fits .d), toZ-ofZ w64 _ (r-fits s)) at (c .if2 .taken)))
     .quotient
 
-moved-below : (c : tie.Then3) → quotZ (c .before .before .args .a) (c .before .before .args .d) -ℤ pos 1 ≡ floorQuotient (c .before .before .args .a) (c .before .before .args .d)
+moved-below : (c : tie.Then3) → Moved (c .before .before)
 moved-below c =
     let s = c .before .before in
     moved-by-negative (s .args .a) (s .args .d) (s .pre .0) (below (c .before))
     (<ℤ-of-test (rw (toZ-ofZ w64 _ (s .fits .a), toZ-ofZ w64 _ (s .fits .d), toZ-ofZ w64 _ (r-fits s)) at (c .if3 .taken)))
     .quotient
 
+-- ---- the needs
 sub-result : tie.Need-sub-result
 sub-result c =
     let s = c .before .before in

@@ -3,7 +3,7 @@ use mathlib.Core.Path.{_≡_, sym, ap, _∙_, subst}
 use mathlib.Core.Logic.{_≢_}
 use Prim.Native.Nat.{_<_}
 use native.Mathlib.Omega.{arith}
-use lib.IntN.{ℤ, pos, negsuc, natAbs, _+ℤ_}
+use lib.IntN.{pos, negsuc, natAbs, _+ℤ_}
 use lib.Signed.{quotZ, remZ, mag-rem, _<ℤ_, _≤ℤ_}
 use mir.Syntax.{w64}
 use mir.Val.{SFits, toZ, ofZ}
@@ -40,14 +40,18 @@ above c = <ℤ-of-test (rw (toZ-ofZ w64 _ (c .before .before .fits .d)) at (c .i
 below : (c : tie.Else2) → c .before .before .args .d ≤ℤ pos 0
 below c = ≥ℤ-of-test (rw (toZ-ofZ w64 _ (c .before .before .fits .d)) at (c .if2 .left))
 
-moved-above : (c : tie.Then3) → remZ (c .before .before .before .args .a) (c .before .before .before .args .d) +ℤ c .before .before .before .args .d ≡ floorRemainder (c .before .before .before .args .a) (c .before .before .before .args .d)
+-- ---- the remainder moved by one divisor
+abbrev Moved : tie.Start → Type 0
+Moved s = remZ (s .args .a) (s .args .d) +ℤ s .args .d ≡ floorRemainder (s .args .a) (s .args .d)
+
+moved-above : (c : tie.Then3) → Moved (c .before .before .before)
 moved-above c =
     let s = c .before .before .before in
     moved-by-positive (s .args .a) (s .args .d) (above (c .before))
     (<ℤ-of-test (rw (toZ-ofZ w64 _ (s .fits .a), toZ-ofZ w64 _ (s .fits .d), toZ-ofZ w64 _ (r-fits s)) at (c .if3 .taken)))
     .remainder
 
-moved-below : (c : tie.Then4) → remZ (c .before .before .before .args .a) (c .before .before .before .args .d) +ℤ c .before .before .before .args .d ≡ floorRemainder (c .before .before .before .args .a) (c .before .before .before .args .d)
+moved-below : (c : tie.Then4) → Moved (c .before .before .before)
 moved-below c =
     let s = c .before .before .before in
     moved-by-negative (s .args .a) (s .args .d) (s .pre) (below (c .before))

@@ -1,10 +1,9 @@
 -- `floor_remainder_4096` meets its contract: the low 12 bits are the remainder, which is from 0 to 4095.
-use mathlib.Core.Path.{_≡_, refl, ap}
+use mathlib.Core.Path.{_≡_}
 use Prim.Native.Nat.{ℕ}
 use native.Mathlib.Omega.{arith}
 use lib.IntN.{pos}
 use lib.Signed.{yes-nonNeg}
-use Rattle.integer.specs.Floor.{floorRemainder}
 use Rattle.integer.proofs.Floor.{remainder-nonneg, natAbs-remainder}
 use Rattle.integer.proofs.Truncated.{masked-is-remainder}
 use Rattle.integer.proofs.division.floor_remainder_4096.Statement.{statement}

@@ -1,6 +1,6 @@
 -- `absolute` meets its contract. A number from 0 on is cast as it stands; of -(n + 1) the code makes n, which never wraps, and adds 1.
 use mathlib.Core.Path.{_≡_, sym}
-use Prim.Native.Nat.{suc, _+_, _^_, _<_}
+use Prim.Native.Nat.{_+_, _^_, _<_}
 use native.Mathlib.Omega.{arith}
 use lib.Dec.{ltb→lt}
 use lib.IntN.{ℤ, pos, negsuc, natAbs, _-ℤ_}
