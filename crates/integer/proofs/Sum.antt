@@ -1,21 +1,22 @@
 -- Dot products of whole-number coefficients with values of any commutative ring, and sums of absolute values: both follow the addition,
 -- scaling, appending and lengthening of lists, by induction; and |dot| is at most the sum of absolutes where the values lie from -1 to 1.
-use mathlib.Core.Path.{_≡_, sym, _∙_}
+use mathlib.Core.Path.{_≡_, refl, sym, _∙_, ap, subst}
 use mathlib.Core.List.{List, [], _∷_, _++_, map}
+use mathlib.Core.Logic.{_≢_, _⊎_, inl, inr}
 use Prim.Native.Nat.{ℕ, zero, suc, _+_, _*_, _≤_, _<_}
-use native.Mathlib.Nat.{zero-add}
+use native.Mathlib.Nat.{add-zero, zero-add, suc-add}
 use native.Mathlib.Numerals.{add-one}
 use native.Mathlib.Omega.{arith}
-use lib.ListN.{length, getD, take}
+use lib.ListN.{length, getD, take, set}
 use lib.Seq.{take-suc}
-use lib.IntN.{ℤ, pos, natAbs}
+use lib.IntN.{ℤ, pos, natAbs, _+ℤ_, _*ℤ_}
 use Rattle.integer.specs.Fraction.{Fraction, _≈_, whole, _*ℚ_}
 use Rattle.integer.specs.Sum.{sumAbs, addLists, scaleList, weightedSum}
-use Rattle.integer.proofs.Ring.{CommutativeRing, con, _⊕_, _⊗_, _≐_, ring, first, rest, at}
+use Rattle.integer.proofs.Ring.{CommutativeRing, con, _⊕_, _⊖_, _⊗_, _≐_, ring}
 use Rattle.integer.proofs.Certificate.{OrderedRing}
 use Rattle.integer.proofs.Absolute.{natAbs-add, natAbs-mul}
 use Rattle.integer.proofs.Bound.{Bound, bound-add, bound-mul, bound-cong, bound-whole}
-use Rattle.integer.proofs.Fraction.{ringOfFractions, ≈-refl, ≈-sym, +ℚ-cong}
+use Rattle.integer.proofs.Fraction.{ringOfFractions, ≈-refl, +ℚ-cong}
 
 -- ---- sums of absolute values
 pub sumAbs-append : (xs ys : List ℤ) → sumAbs (xs ++ ys) ≡ sumAbs xs + sumAbs ys
@@ -47,83 +48,128 @@ sumAbs-take zero xs = omega arith
 sumAbs-take (suc n) [] = omega arith
 sumAbs-take (suc n) (x ∷ xs) = let h = sumAbs-take n xs in omega arith
 
--- ---- dot products; a value past the end of its list is 0
+-- ---- dot products: the coefficients are a list, the values a function of the index
 module _ (𝓡 : CommutativeRing) where
-  open CommutativeRing 𝓡 using (Carrier as C, eq as _~_, add as _⊹_, mul as _·_, whole as k, eq-refl as rfl, eq-sym as sy, eq-trans as _⨟_, add-cong, mul-cong, zero-add as z-add, whole-add, whole-mul)
+  open CommutativeRing 𝓡 using (Carrier as C, eq as _~_, add as _⊹_, mul as _·_, minus, whole as k, eq-refl as rfl, eq-sym as sy, eq-trans as _⨟_, add-cong, mul-cong, zero-add as z-add, whole-add, whole-mul)
 
   infix 4 _~_
   infixr 3 _⨟_
   infixl 6 _⊹_
   infixl 7 _·_
-  unfoldable pub dot : List ℤ → List C → C
+  unfoldable pub dot : List ℤ → (ℕ → C) → C
   dot [] w = k (pos 0)
-  dot (x ∷ a) w = k x · first 𝓡 w ⊹ dot a (rest 𝓡 w)
+  dot (x ∷ a) w = k x · w 0 ⊹ dot a (λ i. w (suc i))
 
-  pub dot-add : (a b : List ℤ) (w : List C) → dot (addLists a b) w ~ dot a w ⊹ dot b w
+  pub dot-nil : (w : ℕ → C) → dot [] w ~ k (pos 0)
+  unfolding dot
+  dot-nil w = rfl _
+
+  pub dot-cons : (x : ℤ) (a : List ℤ) (w : ℕ → C) → dot (x ∷ a) w ~ k x · w 0 ⊹ dot a (λ i. w (suc i))
+  unfolding dot
+  dot-cons x a w = rfl _
+
+  pub dot-path : {a b : List ℤ} (w : ℕ → C) → a ≡ b → dot a w ~ dot b w
+  dot-path {a} w e = subst (λ b. dot a w ~ dot b w) e (rfl _)
+
+  -- a term whose coefficient is 0 may have any value
+  term-same : (x : ℤ) {u w : C} → (x ≡ pos 0) ⊎ (u ~ w) → k x · u ~ k x · w
+  term-same x {u} {w} (inl e) = subst (λ z. k z · u ~ k z · w) (sym e) (ring 𝓡 2 (λ a b. con (pos 0) ⊗ a ≐ con (pos 0) ⊗ b) tt u w)
+  term-same x (inr e) = mul-cong (rfl _) e
+
+  -- only the values beside coefficients that are not 0 count
+  pub dot-same : (a : List ℤ) {u w : ℕ → C} → ((i : ℕ) → i < length a → (getD a i (pos 0) ≡ pos 0) ⊎ (u i ~ w i)) → dot a u ~ dot a w
+  unfolding dot
+  dot-same [] h = rfl _
+  dot-same (x ∷ a) h = add-cong (term-same x (h 0 (omega arith))) (dot-same a (λ i l. h (suc i) (omega arith)))
+
+  pub dot-cong : (a : List ℤ) {u w : ℕ → C} → ((i : ℕ) → i < length a → u i ~ w i) → dot a u ~ dot a w
+  dot-cong a h = dot-same a (λ i l. inr (h i l))
+
+  pub dot-add : (a b : List ℤ) (w : ℕ → C) → dot (addLists a b) w ~ dot a w ⊹ dot b w
   unfolding dot
   dot-add [] b w = sy (z-add _)
   dot-add (x ∷ a) [] w = ring 𝓡 1 (λ x. x ≐ x ⊕ con (pos 0)) tt _
   dot-add (x ∷ a) (y ∷ b) w =
-      add-cong (mul-cong (whole-add x y) (rfl _)) (dot-add a b (rest 𝓡 w))
+      add-cong (mul-cong (whole-add x y) (rfl _)) (dot-add a b (λ i. w (suc i)))
       ⨟ ring 𝓡 5 (λ x y v A B. (x ⊕ y) ⊗ v ⊕ (A ⊕ B) ≐ (x ⊗ v ⊕ A) ⊕ (y ⊗ v ⊕ B)) tt _ _ _ _ _
 
-  pub dot-scale : (c : ℤ) (a : List ℤ) (w : List C) → dot (scaleList c a) w ~ k c · dot a w
+  pub dot-scale : (c : ℤ) (a : List ℤ) (w : ℕ → C) → dot (scaleList c a) w ~ k c · dot a w
   unfolding dot
   dot-scale c [] w = ring 𝓡 1 (λ c. con (pos 0) ≐ c ⊗ con (pos 0)) tt _
   dot-scale c (x ∷ a) w =
-      add-cong (mul-cong (whole-mul c x) (rfl _)) (dot-scale c a (rest 𝓡 w))
+      add-cong (mul-cong (whole-mul c x) (rfl _)) (dot-scale c a (λ i. w (suc i)))
       ⨟ ring 𝓡 4 (λ c x v A. (c ⊗ x) ⊗ v ⊕ c ⊗ A ≐ c ⊗ (x ⊗ v ⊕ A)) tt _ _ _ _
 
-  pub dot-no-values : (a : List ℤ) → dot a [] ~ k (pos 0)
+  pub dot-scale-values : (x : C) (a : List ℤ) (w : ℕ → C) → dot a (λ i. x · w i) ~ x · dot a w
   unfolding dot
-  dot-no-values [] = rfl _
-  dot-no-values (x ∷ a) = add-cong (rfl _) (dot-no-values a) ⨟ ring 𝓡 1 (λ x. x ⊗ con (pos 0) ⊕ con (pos 0) ≐ con (pos 0)) tt _
+  dot-scale-values x [] w = ring 𝓡 1 (λ x. con (pos 0) ≐ x ⊗ con (pos 0)) tt _
+  dot-scale-values x (y ∷ a) w =
+      add-cong (rfl _) (dot-scale-values x a (λ i. w (suc i)))
+      ⨟ ring 𝓡 4 (λ x y v A. y ⊗ (x ⊗ v) ⊕ x ⊗ A ≐ x ⊗ (y ⊗ v ⊕ A)) tt _ _ _ _
 
-  pub dot-scale-values : (e : C) (a : List ℤ) (w : List C) → dot a (map (λ v. e · v) w) ~ e · dot a w
+  pub dot-append : (a b : List ℤ) (w : ℕ → C) → dot (a ++ b) w ~ dot a w ⊹ dot b (λ i. w (length a + i))
   unfolding dot
-  dot-scale-values e [] w = ring 𝓡 1 (λ e. con (pos 0) ≐ e ⊗ con (pos 0)) tt _
-  dot-scale-values e (x ∷ a) [] =
-      dot-no-values (x ∷ a) ⨟ ring 𝓡 1 (λ e. con (pos 0) ≐ e ⊗ con (pos 0)) tt _ ⨟ mul-cong (rfl _) (sy (dot-no-values (x ∷ a)))
-  dot-scale-values e (x ∷ a) (v ∷ w) =
-      add-cong (rfl _) (dot-scale-values e a w) ⨟ ring 𝓡 4 (λ e x v A. x ⊗ (e ⊗ v) ⊕ e ⊗ A ≐ e ⊗ (x ⊗ v ⊕ A)) tt _ _ _ _
+  dot-append [] b w = dot-cong b (λ i l. subst (λ j. w i ~ w j) (sym (zero-add i)) (rfl _)) ⨟ sy (z-add _)
+  dot-append (x ∷ a) b w =
+      add-cong (rfl _)
+      (dot-append a b (λ i. w (suc i))
+      ⨟ add-cong (rfl _) (dot-cong b (λ i l. subst (λ j. w (suc (length a + i)) ~ w j) (sym (suc-add (length a) i)) (rfl _))))
+      ⨟ ring 𝓡 3 (λ x A B. x ⊕ (A ⊕ B) ≐ x ⊕ A ⊕ B) tt _ _ _
 
-  pub dot-append : (a b : List ℤ) (w v : List C) → length a ≡ length w → dot (a ++ b) (w ++ v) ~ dot a w ⊹ dot b v
-  unfolding dot
-  dot-append [] b [] v h = sy (z-add _)
-  dot-append [] b (y ∷ w) v h = absurd (omega arith)
-  dot-append (x ∷ a) b [] v h = absurd (omega arith)
-  dot-append (x ∷ a) b (y ∷ w) v h =
-      add-cong (rfl _) (dot-append a b w v (omega arith)) ⨟ ring 𝓡 3 (λ x A B. x ⊕ (A ⊕ B) ≐ x ⊕ A ⊕ B) tt _ _ _
+  -- one coefficient more
+  pub dot-more : (a : List ℤ) (x : ℤ) (w : ℕ → C) → dot (a ++ (x ∷ [])) w ~ dot a w ⊹ k x · w (length a)
+  dot-more a x w =
+      dot-append a (x ∷ []) w
+      ⨟ add-cong (rfl _) (dot-cons x [] _ ⨟ add-cong (mul-cong (rfl _) (subst (λ j. w (length a + 0) ~ w j) (add-zero (length a)) (rfl _))) (dot-nil _) ⨟ ring 𝓡 1 (λ t. t ⊕ con (pos 0) ≐ t) tt _)
 
-  -- one value more takes the coefficient at its place
-  pub dot-more-values : (a : List ℤ) (w : List C) (v : C) → dot a (w ++ (v ∷ [])) ~ dot a w ⊹ k (getD a (length w) (pos 0)) · v
+  -- each coefficient taken apart, as a number is into its quotient and remainder
+  pub dot-split : (c : ℤ) (f g : ℤ → ℤ) → ((x : ℤ) → x ≡ c *ℤ f x +ℤ g x) → (a : List ℤ) (w : ℕ → C)
+      → dot a w ~ k c · dot (map f a) w ⊹ dot (map g a) w
   unfolding dot
-  dot-more-values [] [] v = ring 𝓡 1 (λ v. con (pos 0) ≐ con (pos 0) ⊕ con (pos 0) ⊗ v) tt v
-  dot-more-values [] (y ∷ w) v = ring 𝓡 1 (λ v. con (pos 0) ≐ con (pos 0) ⊕ con (pos 0) ⊗ v) tt v
-  dot-more-values (x ∷ a) [] v = ring 𝓡 3 (λ x v A. x ⊗ v ⊕ A ≐ (x ⊗ con (pos 0) ⊕ A) ⊕ x ⊗ v) tt _ _ _
-  dot-more-values (x ∷ a) (y ∷ w) v = add-cong (rfl _) (dot-more-values a w v) ⨟ ring 𝓡 3 (λ x A E. x ⊕ (A ⊕ E) ≐ x ⊕ A ⊕ E) tt _ _ _
+  dot-split c f g h [] w = ring 𝓡 1 (λ c. con (pos 0) ≐ c ⊗ con (pos 0) ⊕ con (pos 0)) tt _
+  dot-split c f g h (x ∷ a) w =
+      add-cong (mul-cong parts (rfl _)) (dot-split c f g h a (λ i. w (suc i)))
+      ⨟ ring 𝓡 6 (λ c q r v Q R. (c ⊗ q ⊕ r) ⊗ v ⊕ (c ⊗ Q ⊕ R) ≐ c ⊗ (q ⊗ v ⊕ Q) ⊕ (r ⊗ v ⊕ R)) tt _ _ _ _ _ _
+    where
+      parts : k x ~ k c · k (f x) ⊹ k (g x)
+      parts = subst (λ y. k y ~ k c · k (f x) ⊹ k (g x)) (sym (h x)) (whole-add _ _ ⨟ add-cong (whole-mul _ _) (rfl _))
 
-  pub dot-cong : (a : List ℤ) (w v : List C) → ((i : ℕ) → at 𝓡 w i ~ at 𝓡 v i) → dot a w ~ dot a v
+  -- a coefficient whose value is 0 may be any number
+  pub dot-set : (a : List ℤ) (i : ℕ) (v : ℤ) (w : ℕ → C) → w i ~ k (pos 0) → dot (set a i v) w ~ dot a w
   unfolding dot
-  dot-cong [] w v h = rfl _
-  dot-cong (x ∷ a) w v h = add-cong (mul-cong (rfl _) (h zero)) (dot-cong a (rest 𝓡 w) (rest 𝓡 v) (λ i. h (suc i)))
+  dot-set [] i v w h = rfl _
+  dot-set (x ∷ a) zero v w h =
+      add-cong (mul-cong (rfl _) h ⨟ ring 𝓡 2 (λ v x. v ⊗ con (pos 0) ≐ x ⊗ con (pos 0)) tt _ _ ⨟ mul-cong (rfl _) (sy h)) (rfl _)
+  dot-set (x ∷ a) (suc i) v w h = add-cong (rfl _) (dot-set a i v (λ j. w (suc j)) h)
+
+  -- one value changed
+  pub dot-change : (a : List ℤ) (i : ℕ) {u w : ℕ → C} → ((j : ℕ) → j ≢ i → (getD a j (pos 0) ≡ pos 0) ⊎ (u j ~ w j))
+      → dot a u ~ dot a w ⊹ k (getD a i (pos 0)) · (u i ⊹ minus (w i))
+  unfolding dot
+  dot-change [] i h = ring 𝓡 1 (λ d. con (pos 0) ≐ con (pos 0) ⊕ con (pos 0) ⊗ d) tt _
+  dot-change (x ∷ a) zero {u} {w} h =
+      add-cong (rfl _) (dot-same a (λ j l. h (suc j) (λ e. let f : suc j ≡ 0 = e in omega arith)))
+      ⨟ ring 𝓡 4 (λ x u w A. x ⊗ u ⊕ A ≐ (x ⊗ w ⊕ A) ⊕ x ⊗ (u ⊖ w)) tt _ _ _ _
+  dot-change (x ∷ a) (suc i) {u} {w} h =
+      add-cong (term-same x (h 0 (λ e. let f : 0 ≡ suc i = e in omega arith)))
+      (dot-change a i {u = λ j. u (suc j)} {w = λ j. w (suc j)} (λ j n. h (suc j) (λ e. n (let f : suc j ≡ suc i = e in omega arith))))
+      ⨟ ring 𝓡 4 (λ x w A E. x ⊗ w ⊕ (A ⊕ E) ≐ (x ⊗ w ⊕ A) ⊕ E) tt _ _ _ _
 
 -- ---- bounds
 module _ (𝓞 : OrderedRing) where
   open CommutativeRing (𝓞 .ring) using (Carrier as C, whole as k, eq-refl as rfl, eq-sym as sy, eq-trans as _⨟_, whole-add)
 
   infixr 3 _⨟_
-  pub dot-within : (a : List ℤ) (w : List C) → ((i : ℕ) → Bound 𝓞 (at (𝓞 .ring) w i) (k (pos 1))) → Bound 𝓞 (dot (𝓞 .ring) a w) (k (pos (sumAbs a)))
+  pub dot-within : (a : List ℤ) (w : ℕ → C) → ((i : ℕ) → Bound 𝓞 (w i) (k (pos 1))) → Bound 𝓞 (dot (𝓞 .ring) a w) (k (pos (sumAbs a)))
   unfolding dot
   dot-within [] w h = bound-whole 𝓞 (pos 0)
   dot-within (x ∷ a) w h =
       bound-cong 𝓞 (rfl _)
       (ring (𝓞 .ring) 2 (λ x s. x ⊗ con (pos 1) ⊕ s ≐ x ⊕ s) tt _ _ ⨟ sy (whole-add (pos (natAbs x)) (pos (sumAbs a))))
-      (bound-add 𝓞 (bound-mul 𝓞 (bound-whole 𝓞 x) (h zero)) (dot-within a (rest (𝓞 .ring) w) (λ i. h (suc i))))
+      (bound-add 𝓞 (bound-mul 𝓞 (bound-whole 𝓞 x) (h 0)) (dot-within a (λ i. w (suc i)) (λ i. h (suc i))))
 
 -- ---- the sum over fractions is the dot product
-pub weightedSum-is-dot : (a : List ℤ) (w : List Fraction) → weightedSum a w ≈ dot ringOfFractions a w
+pub weightedSum-is-dot : (a : List ℤ) (w : ℕ → Fraction) → weightedSum a w ≈ dot ringOfFractions a w
 unfolding weightedSum dot
 weightedSum-is-dot [] w = ≈-refl (whole (pos 0))
-weightedSum-is-dot (x ∷ a) [] = ≈-sym (dot-no-values ringOfFractions (x ∷ a))
-weightedSum-is-dot (x ∷ a) (v ∷ w) = +ℚ-cong (≈-refl (whole x *ℚ v)) (weightedSum-is-dot a w)
+weightedSum-is-dot (x ∷ a) w = +ℚ-cong (≈-refl (whole x *ℚ w 0)) (weightedSum-is-dot a (λ i. w (suc i)))

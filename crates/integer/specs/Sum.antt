@@ -1,7 +1,7 @@
 -- Lists of whole numbers, as the coefficients of a form: their absolute values summed, two lists added, a list scaled, and the sum of
 -- each coefficient times a value.
 use mathlib.Core.List.{List, [], _∷_}
-use Prim.Native.Nat.{ℕ, _+_}
+use Prim.Native.Nat.{ℕ, suc, _+_}
 use lib.IntN.{ℤ, pos, _+ℤ_, _*ℤ_, natAbs}
 use Rattle.integer.specs.Fraction.{Fraction, whole, _+ℚ_, _*ℚ_}
 
@@ -21,8 +21,7 @@ abbrev pub scaleList : ℤ → List ℤ → List ℤ
 scaleList c [] = []
 scaleList c (x ∷ xs) = (c *ℤ x) ∷ scaleList c xs
 
--- each coefficient times its value, summed; a value that is missing is 0
-unfoldable pub weightedSum : List ℤ → List Fraction → Fraction
-weightedSum [] vs = whole (pos 0)
-weightedSum (x ∷ xs) [] = whole (pos 0)
-weightedSum (x ∷ xs) (v ∷ vs) = whole x *ℚ v +ℚ weightedSum xs vs
+-- each coefficient times the value at its index, summed
+unfoldable pub weightedSum : List ℤ → (ℕ → Fraction) → Fraction
+weightedSum [] w = whole (pos 0)
+weightedSum (x ∷ xs) w = whole x *ℚ w 0 +ℚ weightedSum xs (λ i. w (suc i))
