@@ -1,11 +1,12 @@
 """What the program `row_examples` must print: P1 to P11 of document 01, row by row.
 
     python3 checker/row_cases.py > crates/row_examples/stdout
+    python3 checker/row_cases.py refusals > ...      (with P12 and P13 behind them)
 
 One line for each example, its fields separated by one space: the label (`P1`); then `refused 6` or
 `refused 7`, or the 52 numbers of the resulting row (centre, 30 linear coefficients, 21 pair
-coefficients) followed by low and high of its range. An example in two parts has a line for each
-part, with `a` and `b` behind the label.
+coefficients) followed by low and high of its range. P12 and P13, which are in two parts, have a line
+for each part, with `a` and `b` behind the label.
 
 Which row owns which symbol (row r owns symbol r):
 
@@ -20,6 +21,8 @@ Which row owns which symbol (row r owns symbol r):
   squares 0.
 - P13a (times 16,384), P13b (times 16,385): as P3.
 """
+
+import sys
 
 import rows
 
@@ -58,6 +61,9 @@ EXAMPLES = [
     ("P9", square_of_input(4096, 8192, 0)),
     ("P10", reciprocal_of_input(4096, 8192, 1)),
     ("P11", reciprocal_of_input(4096, 8192, 0)),
+]
+
+REFUSALS = [
     ("P12a", reciprocal_of_input(1, 2, 0)),
     ("P12b", reciprocal_of_input(1, 3, 0)),
     ("P13a", product_of_constants(268_435_456, 16_384)),
@@ -74,5 +80,5 @@ def example_line(label, work) -> str:
 
 
 if __name__ == "__main__":
-    for label, work in EXAMPLES:
+    for label, work in EXAMPLES + (REFUSALS if sys.argv[1:] == ["refusals"] else []):
         print(example_line(label, work))
