@@ -37,35 +37,32 @@ class Work(NamedTuple):
     place: int
 
 
-def input_or_step_row(schedule, number, worked, arithmetic):
+def input_or_step_row(schedule, number, worked):
     """What row `number` becomes, from the rows worked before it: "Rows are numbered from 1:
     inputs first, then steps."."""
     inputs, squares, _ = schedule.counts
     if number <= inputs:
-        return arithmetic.input_row(*schedule.ends[number - 1], number)
+        return rows.input_row(*schedule.ends[number - 1], number)
     step = schedule.steps[number - inputs - 1]
     if step.code == sheet.CONSTANT:
-        return arithmetic.constant_row(step.value)
+        return rows.constant_row(step.value)
     first = worked[step.first - 1]
     if step.code == sheet.RECIPROCAL:
-        return arithmetic.reciprocal(first, squares, number)
+        return rows.reciprocal(first, squares, number)
     second = worked[step.second - 1]
     if step.code == sheet.ADD:
-        return arithmetic.add(first, second)
+        return rows.add(first, second)
     if step.code == sheet.SUBTRACT:
-        return arithmetic.subtract(first, second)
-    return arithmetic.multiply(first, second, squares, number)
+        return rows.subtract(first, second)
+    return rows.multiply(first, second, squares, number)
 
 
-def work(schedule, arithmetic=rows) -> Work:
-    """The rows of a schedule that passes 3, 4, 5: "then row by row, 7 before 6".
-
-    `arithmetic` is the module `rows`, or a spoilt stand-in of it (demand3.py, the teeth).
-    """
+def work(schedule) -> Work:
+    """The rows of a schedule that passes 3, 4, 5: "then row by row, 7 before 6"."""
     worked = []
     for number in range(1, schedule.counts.inputs + schedule.counts.steps + 1):
         try:
-            worked.append(input_or_step_row(schedule, number, worked, arithmetic))
+            worked.append(input_or_step_row(schedule, number, worked))
         except rows.RowRefusal as refusal:
             return Work(worked, refusal.number, number)
     return Work(worked, 0, 0)

@@ -46,9 +46,7 @@ class Draft:
         counts = sheet.Counts(len(self.ends), self.squares, len(self.steps))
         drafted = sheet.Schedule(counts, self.ends, self.steps)
         try:
-            self.rows.append(
-                evaluation.input_or_step_row(drafted, self.last(), self.rows, rows)
-            )
+            self.rows.append(evaluation.input_or_step_row(drafted, self.last(), self.rows))
         except rows.RowRefusal:
             self.refused = True
 
@@ -103,6 +101,11 @@ def around_zero(rng):
     return (-magnitude(rng), magnitude(rng))
 
 
+def symmetric(rng):
+    wide = magnitude(rng)
+    return (-wide, wide)
+
+
 def one_sided(rng):
     """Ends on one side of 0, from narrow to wide."""
     near = magnitude(rng)
@@ -132,7 +135,10 @@ def at_the_limits(rng):
     return tuple(sorted(ends))
 
 
-ENDS = [around_zero, one_sided, near_one, near_one, at_zero_width, touching_zero, at_the_limits]
+ENDS = [
+    around_zero, symmetric, one_sided, near_one, near_one, at_zero_width, touching_zero,
+    at_the_limits,
+]
 
 
 def any_ends(rng):
@@ -259,11 +265,24 @@ def range_at_zero(rng) -> Draft:
     return then_anything(rng, draft)
 
 
+def mixed_pairs(rng) -> Draft:
+    """Reciprocals and products of rows in which pairs of different symbols meet."""
+    inputs = rng.randint(2, sheet.INPUTS_LIMIT)
+    draft = Draft(rng.randint(2, inputs), [near_one(rng) for _ in range(inputs)])
+    total = draft.multiply(1, 2)
+    for _ in range(rng.randint(0, 3)):
+        product = draft.multiply(rng.randint(1, draft.last()), rng.randint(1, inputs))
+        total = draft.step(rng.choice((2, 2, 3)), total, product)
+    draft.reciprocal(total)
+    return then_anything(rng, draft)
+
+
 def large_squares(rng) -> Draft:
     """Products of wide inputs about 0: pair coefficients far larger than the centre, then a
     reciprocal near them (a candidate over the span, or a large own coefficient)."""
     inputs = rng.randint(1, sheet.INPUTS_LIMIT)
-    draft = Draft(inputs - rng.randint(0, 1), [around_zero(rng) for _ in range(inputs)])
+    ends = rng.choice((around_zero, symmetric))
+    draft = Draft(inputs - rng.randint(0, 1), [ends(rng) for _ in range(inputs)])
     total = draft.multiply(1, 1)
     for _ in range(rng.randint(0, 5)):
         product = draft.multiply(rng.randint(1, inputs), rng.randint(1, inputs))
@@ -324,8 +343,8 @@ def long_products(rng) -> Draft:
 
 
 EXTREMES = [
-    limit_ends, span_by_sums, span_by_product, range_at_zero, large_squares, reciprocal_chain,
-    small_divisors, cancellation, long_products,
+    limit_ends, span_by_sums, span_by_product, range_at_zero, large_squares, mixed_pairs,
+    reciprocal_chain, small_divisors, cancellation, long_products,
 ]
 
 

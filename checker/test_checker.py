@@ -3,12 +3,20 @@
     python3 -m unittest discover checker
 """
 
+import pathlib
+import random
+import subprocess
+import sys
 import unittest
 
+import demand3
 import evaluation
+import generate
 import listing
 import rows
 import sheet
+import sheet_cases
+import spoilt
 
 EXAMPLE_SHEET = b"""\
 inputs squares steps
@@ -129,6 +137,327 @@ class ProvedExamples(unittest.TestCase):
 
     def test_the_listing_of_01(self):
         self.assertEqual(listing.listing(EXAMPLE_SHEET), EXAMPLE_LISTING)
+
+
+class Traps(unittest.TestCase):
+    """"Traps for the builder": each one changes an example as 01 says it does."""
+
+    def test_rounding_toward_zero(self):
+        with spoilt.spoilt("a product rounded toward zero"):
+            self.assertNotEqual(of_two_constants(4, -1, 1)[0], -1)
+        with spoilt.spoilt("a candidate rounded toward zero"):
+            self.assertNotEqual(reciprocal_of_constant(-12288)[0], -1366)
+
+    def test_counting_squares_from_minus_1(self):
+        with spoilt.spoilt("low with squares from -1"):
+            self.assertEqual(listing.listing(EXAMPLE_SHEET).split(b"\n")[7], b"7 4032 4160 0 0")
+
+    def test_one_symbol_for_all_roundings(self):
+        steps = [*constant_steps(1, 2), (4, 2, 2, 0), (4, 2, 3, 0), (3, 5, 4, 0)]
+        row = last_row(0, [(0, 0)], steps)
+        self.assertEqual((rows.low(row), rows.high(row)), (-2, 2))
+        with spoilt.spoilt("one symbol for the rounding of all steps"):
+            row = last_row(0, [(0, 0)], steps)
+            self.assertEqual((rows.low(row), rows.high(row)), (0, 0))
+
+    def test_half_the_width(self):
+        with spoilt.spoilt("half the width as an input's own coefficient"):
+            self.assertEqual(rows.high(rows.input_row(0, 1, 1)), 0)
+
+
+class Rows(unittest.TestCase):
+    def test_pair_places(self):
+        self.assertEqual(rows.NUMBERS, 52)
+        self.assertEqual(rows.PAIR_PLACE[1, 1], 31)
+        self.assertEqual(rows.PAIR_PLACE[1, 6], 36)
+        self.assertEqual(rows.PAIR_PLACE[2, 2], 37)
+        self.assertEqual(rows.PAIR_PLACE[6, 6], 51)
+
+    def test_product_of_two_inputs(self):
+        """(1 + a)(2 + 3b) with squares 2, in units of 4096 and by hand."""
+        row = last_row(2, [(0, 8192), (-4096, 20480)], [(4, 1, 2, 0)])
+        self.assertEqual(row, numbers(8192, {1: 8192, 2: 12288}, [0, 12288]))
+
+    def test_product_with_one_square_drops_the_rest(self):
+        row = last_row(1, [(0, 8192), (-4096, 20480)], [(4, 1, 2, 0)])
+        self.assertEqual(row, numbers(8192, {1: 8192, 2: 12288, 3: 12288}))
+
+    def test_candidate_pair_has_two_divisions(self):
+        """x = 5 + a + b + 2ab: by hand 16777216/5 and -16777216/25, then for (1,2)
+        floor(-2·16777216/25) + floor(2·671089/5)."""
+        operand = numbers(5, {1: 1, 2: 1}, [0, 2])
+        made = rows.candidate(operand, 2)
+        self.assertEqual(made[:3], [3355443, -671089, -671089])
+        self.assertEqual(made[31:34], [134217, -1342178 + 268435, 0])
+        self.assertEqual(made[37], 134217)
+
+    def test_range_of_every_kind_of_number(self):
+        row = numbers(10, {1: -1, 30: 2}, [4, -8])
+        row[37] = -16
+        self.assertEqual((rows.low(row), rows.high(row)), (10 - 3 - 8 - 16, 10 + 3 + 8 + 4))
+
+
+class Reading(unittest.TestCase):
+    """Reader and writer, with the readings that the team decided (docs/DECISIONS.md)."""
+
+    def refusal(self, data):
+        answer = sheet.read(data)
+        if answer.number:
+            self.assertEqual(answer.schedule, sheet.ZEROS)
+        return answer.number, answer.place
+
+    def test_order_of_causes(self):
+        start = b"inputs squares steps\n"
+        ends = start + b"1 0 1\nlow high\n"
+        steps = ends + b"0 0\nstep first second value\n"
+        for data, expected in [
+            (b"", (2, 1)),
+            (b"x" * 1024, (2, 1)),
+            (b"x" * 1025, (1, 0)),
+            (start, (2, 2)),
+            (start[:-1], (2, 1)),
+            (start + b"9 0 01\n", (2, 2)),
+            (start + b"9 0 1\n", (3, 2)),
+            (start + b"9 0 1", (2, 2)),
+            (start + b"1 2 1\n", (3, 2)),
+            (start + b"1 -1 1\n", (3, 2)),
+            (start + b"1 0 25\n", (3, 2)),
+            (start + b"1 0 10000000000\n", (2, 2)),
+            (start + b"1 0 9999999999\n", (3, 2)),
+            (start + b"1 0 1\n", (2, 3)),
+            (ends, (2, 4)),
+            (ends + b"1 0\n", (4, 4)),
+            (ends + b"1 00\n", (2, 4)),
+            (ends + b"1 0", (2, 4)),
+            (ends + b"-268435457 0\n", (4, 4)),
+            (steps, (2, 6)),
+            (steps + b"1 0 0 268435456\n", (0, 0)),
+            (steps + b"1 0 0 268435457\n", (5, 6)),
+            (steps + b"1 0 0 268435456", (2, 6)),
+            (steps + b"1 0 0 0\n\n", (2, 7)),
+            (steps + b"1 0 0 0\n" + b"0" * 2000, (1, 0)),
+            (steps + b"6 0 0 0\n\n", (5, 6)),
+            (steps + b"2 1 2 0\n", (5, 6)),
+            (steps + b"2 1 0 0\n", (5, 6)),
+            (steps + b"2 1 1 1\n", (5, 6)),
+            (steps + b"5 1 1 0\n", (5, 6)),
+            (steps + b"5 1 0 0\n", (0, 0)),
+            (steps + b"1 1 0 0\n", (5, 6)),
+        ]:
+            with self.subTest(data=data[:200]):
+                self.assertEqual(self.refusal(data), expected)
+
+    def test_numbers(self):
+        start = b"inputs squares steps\n1 0 1\nlow high\n"
+        for field in (b"-0", b"00", b"01", b"+1", b"-", b"", b"1\r", b"\t1", b"1\0", b"- 1", b"1_0"):
+            with self.subTest(field=field):
+                self.assertEqual(self.refusal(start + field + b" 0\n"), (2, 4))
+        self.assertEqual(self.refusal(start + b"-9999999999 0\n"), (4, 4))
+
+    def test_sheet_cases_are_many_and_of_every_kind(self):
+        cases = sheet_cases.cases()
+        self.assertGreaterEqual(len(cases), 300)
+        self.assertLessEqual(max(map(len, cases)), sheet_cases.LONGEST_CASE)
+        outcomes = {self.refusal(case) for case in cases}
+        layout = {(2, line) for line in range(1, 11)}
+        self.assertLessEqual({(0, 0), (1, 0), (3, 2), (4, 4), (4, 5)} | layout, outcomes)
+        self.assertLessEqual({(5, 7), (5, 8), (5, 9)}, outcomes)
+
+    def test_both_round_trips(self):
+        for index in range(400):
+            data = generate.sheet_bytes("round trip", index)
+            answer = sheet.read(data)
+            out = bytearray(b"?" * (len(data) + 3))
+            written = sheet.write(answer.schedule, out)
+            if answer.number:
+                self.assertEqual(written, (3, 2, 0))
+                self.assertEqual(out, b"?" * len(out))
+            else:
+                self.assertEqual(written, (0, 0, len(data)))
+                self.assertEqual(out, data + b"???")
+                self.assertEqual(sheet.read(bytes(out[:-3])).schedule, answer.schedule)
+
+    def test_writer_needs_room(self):
+        handed = sheet.read(EXAMPLE_SHEET).schedule
+        out = bytearray(len(EXAMPLE_SHEET) - 1)
+        self.assertEqual(sheet.write(handed, out), (8, 0, 0))
+        self.assertEqual(out, bytes(len(out)))
+
+    def test_counts_of_any_value_are_3(self):
+        for counts in [(-(2**63), 0, 1), (1, 2**63 - 1, 1), (1, 0, 2**63 - 1), (7, 7, 25)]:
+            handed = sheet.ZEROS._replace(counts=sheet.Counts(*counts))
+            self.assertEqual(sheet.write(handed, bytearray(2000)), (3, 2, 0))
+            self.assertEqual(evaluation.evaluate(handed, [0] * 1560), (3, 2))
+
+    def test_what_lies_beyond_the_counts_changes_nothing(self):
+        handed = sheet.read(EXAMPLE_SHEET).schedule
+        filled = handed._replace(
+            ends=handed.ends[:1] + (sheet.Ends(2**63 - 1, -(2**63)),) * 5,
+            steps=handed.steps[:6] + (sheet.Step(9, 2**63 - 1, -(2**63), 5),) * 18,
+        )
+        tables, outs = ([7] * 400, [7] * 400), (bytearray(300), bytearray(300))
+        for schedule, table, out in zip((handed, filled), tables, outs):
+            self.assertEqual(evaluation.evaluate(schedule, table), (0, 0))
+            self.assertEqual(sheet.write(schedule, out).length, len(EXAMPLE_SHEET))
+        self.assertEqual(*tables)
+        self.assertEqual(*outs)
+
+
+class Evaluating(unittest.TestCase):
+    def test_writes_its_rows_and_no_others(self):
+        handed = sheet.read(EXAMPLE_SHEET).schedule
+        table = [-9] * (52 * 7 + 5)
+        self.assertEqual(evaluation.evaluate(handed, table), (0, 0))
+        self.assertEqual(table[52 * 7 :], [-9] * 5)
+        self.assertNotIn(-9, table[: 52 * 7])
+
+    def test_needs_52_numbers_for_each_row(self):
+        table = [-9] * (52 * 7 - 1)
+        self.assertEqual(evaluation.evaluate(sheet.read(EXAMPLE_SHEET).schedule, table), (8, 0))
+        self.assertEqual(table, [-9] * len(table))
+
+    def test_after_a_refusal_the_rows_before_are_written(self):
+        for step, number in [((5, 1, 0, 0), 7), ((4, 2, 2, 0), 6)]:
+            handed = sheet.schedule(0, [(-5, 5)], [(1, 0, 0, 2**28), step, (2, 1, 1, 0)])
+            table = [-9] * (52 * 4)
+            self.assertEqual(evaluation.evaluate(handed, table), (number, 3))
+            self.assertEqual(table[: 52 * 2], numbers(0, {1: 5}) + numbers(2**28, {}))
+            self.assertEqual(table[52 * 2 :], [-9] * (52 * 2))
+
+    def test_7_before_6(self):
+        """The operand is 1 - 2^20·a², squares 1: its range holds 0 and its candidate is over the
+        span."""
+        steps = [(4, 1, 1, 0), (1, 0, 0, 1), (3, 3, 2, 0), (5, 4, 0, 0)]
+        self.assertEqual(last_row(1, [(-65536, 65536)], steps), (7, 5))
+        steps[2] = (2, 3, 2, 0)
+        self.assertEqual(last_row(1, [(-65536, 65536)], steps), (6, 5))
+
+    def test_order_of_causes_where_rows_are_asked_for(self):
+        good, least = numbers(5, {2: 3}), [-(2**63)] * 52
+        table = good + least + good + least
+        asked = evaluation.row_range
+        self.assertEqual(asked(table, 4, 1), (0, 0, 2, 8))
+        self.assertEqual(asked(table, 4, 2), (6, 2, 0, 0))
+        self.assertEqual(asked(table, 4, 0), (9, 0, 0, 0))
+        self.assertEqual(asked(table, 4, 5), (9, 0, 0, 0))
+        self.assertEqual(asked(table, 5, 1), (8, 0, 0, 0))
+        self.assertEqual(asked(table, 31, 1), (9, 0, 0, 0))
+        self.assertEqual(asked([], 0, 0), (9, 0, 0, 0))
+        self.assertEqual(asked(table[:-1], 4, 2), (8, 0, 0, 0))
+        self.assertEqual(evaluation.row_part(table, 4, 3), good)
+        self.assertEqual(evaluation.row_part(table, 4, 2), [])
+        compare = evaluation.same_rows
+        self.assertEqual(compare(table, 4, 1, 3), (0, 0, True))
+        self.assertEqual(compare(table, 4, 4, 2), (6, 2, False))
+        self.assertEqual(compare(table, 4, 4, 1), (6, 4, False))
+        self.assertEqual(compare(table, 4, 2, 5), (9, 0, False))
+        self.assertEqual(compare(table, 5, 2, 4), (8, 0, False))
+
+    def test_span_of_a_lent_row(self):
+        for over in (0, 1):
+            row = numbers(-(2**30) + 52, {30: -1}, [-1] * 21)
+            row[2] = 30 + over
+            self.assertEqual(evaluation.row_range(row, 1, 1).number, 6 if over else 0)
+
+
+def schedules_read(seed, count):
+    """The schedules that are read among the first `count` sheets of a seed."""
+    answers = [sheet.read(generate.sheet_bytes(seed, index)) for index in range(count)]
+    return [answer.schedule for answer in answers if not answer.number]
+
+
+def violated_clauses(schedules):
+    """Each clause of demand 3 that fails on an accepted schedule, one after another, for two
+    choices of inputs and symbols."""
+    for index, schedule in enumerate(schedules):
+        rng = random.Random(index)
+        if evaluation.work(schedule).number:
+            continue
+        for _ in range(2):
+            inputs, symbols = demand3.any_inputs(rng, schedule), demand3.any_symbols(rng)
+            try:
+                yield from demand3.violations(schedule, inputs, symbols)
+            except demand3.TooLong:
+                break
+
+
+class Demand3(unittest.TestCase):
+    def test_holds_on_generated_sheets(self):
+        self.assertEqual(list(violated_clauses(schedules_read("demand 3", 2500))), [])
+
+    def test_holds_at_every_corner_of_a_sheet(self):
+        """(a·b + 1) / (a + b + 5/4), with a from -1/8 to 1/4 and b from 1/3 or so to 1."""
+        handed = sheet.schedule(
+            2,
+            [(-512, 1023), (1365, 4096)],
+            [(4, 1, 2, 0), (1, 0, 0, 4096), (2, 3, 4, 0), (2, 1, 2, 0), (1, 0, 0, 5120)]
+            + [(2, 6, 7, 0), (5, 8, 0, 0), (4, 5, 9, 0)],
+        )
+        rng = random.Random(3)
+        for a in range(-512, 1024, 307):
+            for b in range(1365, 4097, 683):
+                inputs = [demand3.Fraction(a, 4096), demand3.Fraction(b, 4096)]
+                symbols = demand3.any_symbols(rng)
+                self.assertEqual(demand3.violations(handed, inputs, symbols), [])
+
+    def test_teeth(self):
+        """In each unsound arithmetic a violation is found."""
+        schedules = schedules_read("teeth", 2000)
+        for name in spoilt.UNSOUND:
+            with self.subTest(name), spoilt.spoilt(name):
+                self.assertTrue(any(violated_clauses(schedules)))
+
+    def test_teeth_of_every_clause(self):
+        """Each clause is found violated in some unsound arithmetic."""
+        clauses = {demand3.EQUAL_EXACTLY_WHEN, demand3.FOUND, demand3.DIVISOR, demand3.RANGE}
+        schedules = schedules_read("clauses", 500)
+        seen = set()
+        for name in ("an input's own coefficient one smaller", "no dropped part"):
+            with spoilt.spoilt(name):
+                seen |= set(violated_clauses(schedules))
+        self.assertEqual(seen, clauses | {demand3.SAME})
+
+    def test_a_shared_symbol_narrows_ranges_and_confuses_rows(self):
+        schedules = schedules_read("shared", 1000)
+        with spoilt.spoilt("one symbol for the rounding of all steps"):
+            seen = set(violated_clauses(schedules))
+        self.assertLessEqual({demand3.RANGE, demand3.SAME}, seen)
+
+
+class Generators(unittest.TestCase):
+    def test_a_sheet_depends_on_seed_and_index_alone(self):
+        for index in range(40):
+            self.assertEqual(generate.sheet_bytes("1", index), generate.sheet_bytes("1", index))
+
+    def test_every_outcome_occurs(self):
+        outcomes = generate.outcomes("outcomes", 0, 2000)
+        self.assertEqual(sorted(outcomes), list(range(8)))
+        self.assertGreater(outcomes[0], 600)
+
+    def test_the_first_sheets_tell_every_spoilt_arithmetic(self):
+        """A program with any of these faults would not get through compare.py."""
+        sheets = [generate.sheet_bytes("01", index) for index in range(4000)]
+        expected = [listing.listing(data) for data in sheets]
+        for name in spoilt.UNSOUND | spoilt.OTHER_NUMBERS:
+            with self.subTest(name), spoilt.spoilt(name):
+                pairs = zip(sheets, expected)
+                self.assertTrue(any(self.differs(data, right) for data, right in pairs))
+
+    def differs(self, data, right):
+        return listing.listing(data) != right
+
+
+class Comparison(unittest.TestCase):
+    def test_a_wrong_program_fails(self):
+        """/bin/cat prints the sheet, which no answer is."""
+        program = pathlib.Path(__file__).with_name("compare.py")
+        ended = subprocess.run(
+            [sys.executable, program, "/bin/cat", "--seed", "1", "--count", "40"],
+            capture_output=True,
+        )
+        self.assertEqual(ended.returncode, 1)
+        self.assertEqual(ended.stdout.split(b"\n")[-2], b"0 passed, 40 failed")
+        self.assertIn(b"inputs squares steps", ended.stdout)
 
 
 if __name__ == "__main__":
