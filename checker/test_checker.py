@@ -12,6 +12,7 @@ import unittest
 import demand3
 import evaluation
 import generate
+import library_calls
 import listing
 import rows
 import sheet
@@ -445,6 +446,32 @@ class Generators(unittest.TestCase):
 
     def differs(self, data, right):
         return listing.listing(data) != right
+
+
+class LibraryCalls(unittest.TestCase):
+    def test_within_the_room_that_the_format_promises(self):
+        for call in library_calls.calls():
+            if call[0] == library_calls.TABLE:
+                self.assertLessEqual(call[1], library_calls.TABLE_ROOM)
+            if call[0] == library_calls.WRITE:
+                self.assertLessEqual(call[1], library_calls.WRITE_ROOM)
+            self.assertEqual(len(library_calls.encoded(call)), 17 * len(call))
+
+    def test_every_number_occurs(self):
+        lines = library_calls.expected(library_calls.calls()).split(b"\n")
+        fields = [line.split() for line in lines]
+        seen = {
+            word: {int(field[1]) for field in fields if field[:1] == [word]}
+            for word in (b"evaluate", b"range", b"same", b"write")
+        }
+        self.assertEqual(seen[b"evaluate"], {0, 3, 4, 5, 6, 7, 8})
+        self.assertEqual(seen[b"range"], {0, 6, 8, 9})
+        self.assertEqual(seen[b"same"], {0, 6, 8, 9})
+        self.assertEqual(seen[b"write"], {0, 3, 4, 5, 8})
+
+    def test_a_schedule_comes_back_from_its_numbers(self):
+        numbers = library_calls.flat(library_calls.GOOD)
+        self.assertEqual(library_calls.schedule_of(numbers), library_calls.GOOD)
 
 
 class Comparison(unittest.TestCase):
