@@ -1,13 +1,18 @@
 """Demand 3 by number: exact values, form's values and found values in fractions.
 
+    python3 checker/demand3.py SEED COUNT      checks the accepted ones among so many sheets
+
 Document 01, "The words of demand 3"; the demand itself stands in the mission. `violations` checks
 every clause on one accepted schedule, for one choice of inputs within their ends and one choice of
 noise symbols. spoilt.py holds ways to get row arithmetic wrong in which it must find violations.
 """
 
+import random
+import sys
 from fractions import Fraction
 
 import evaluation
+import generate
 import rows
 import sheet
 
@@ -170,3 +175,33 @@ def any_symbols(rng) -> list[Fraction]:
     """"its noise symbols whatever fractions at all"."""
     wide = rng.choice((1, 1, 5, 10**6))
     return [Fraction(rng.randint(-wide * 6, wide * 6), 6) for _ in range(1 + rows.SYMBOLS)]
+
+
+def check_sheet(seed, index: int):
+    """The violations on one generated sheet, or None where it is refused or too long to work."""
+    answer = sheet.read(generate.sheet_bytes(seed, index))
+    if answer.number or evaluation.work(answer.schedule).number:
+        return None
+    rng = random.Random(f"{seed}/{index}/inputs")
+    inputs, symbols = any_inputs(rng, answer.schedule), any_symbols(rng)
+    try:
+        return violations(answer.schedule, inputs, symbols)
+    except TooLong:
+        return None
+
+
+def main(seed: str, count: str) -> int:
+    passed = failed = 0
+    for index in range(int(count)):
+        violated = check_sheet(seed, index)
+        if violated:
+            failed += 1
+            print(f"seed {seed} index {index}: {'; '.join(violated)}")
+        elif violated is not None:
+            passed += 1
+    print(f"{passed} passed, {failed} failed")
+    return 1 if failed else 0
+
+
+if __name__ == "__main__":
+    sys.exit(main(*sys.argv[1:]))

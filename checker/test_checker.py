@@ -3,6 +3,7 @@
     python3 -m unittest discover checker
 """
 
+import collections
 import pathlib
 import random
 import subprocess
@@ -166,6 +167,21 @@ class Traps(unittest.TestCase):
             self.assertEqual(rows.high(rows.input_row(0, 1, 1)), 0)
 
 
+def place_of(term):
+    """The place in a row of a term, given as the symbols that it multiplies."""
+    return rows.PAIR_PLACE[term] if len(term) == 2 else sum(term)
+
+
+def multiplied_out(x, y):
+    """The product of two forms, each of its terms by itself."""
+    terms = [(), *((i,) for i in range(1, 31)), *rows.PAIRS]
+    product = collections.Counter()
+    for first, p in zip(terms, x):
+        for second, q in zip(terms, y):
+            product[tuple(sorted(first + second))] += p * q
+    return product
+
+
 class Rows(unittest.TestCase):
     def test_pair_places(self):
         self.assertEqual(rows.NUMBERS, 52)
@@ -182,6 +198,29 @@ class Rows(unittest.TestCase):
     def test_product_with_one_square_drops_the_rest(self):
         row = last_row(1, [(0, 8192), (-4096, 20480)], [(4, 1, 2, 0)])
         self.assertEqual(row, numbers(8192, {1: 8192, 2: 12288, 3: 12288}))
+
+    def test_totals_are_the_kept_part_of_the_polynomial_product(self):
+        """Multiplied out term by term, the kept terms are the totals, and the absolutes of the
+        others add up to at most the dropped part (to just that where all numbers are positive)."""
+        rng = random.Random(8)
+        for _ in range(60):
+            squares = rng.randint(0, 6)
+            low = rng.choice((-9, 1))
+            x, y = ([rng.randint(low, 9) for _ in range(52)] for _ in range(2))
+            kept = [(), *((i,) for i in range(1, 31))]
+            kept += [pair for pair in rows.PAIRS if pair[1] <= squares]
+            for row in (x, y):
+                for place, pair in enumerate(rows.PAIRS, 31):
+                    row[place] *= pair in kept
+            product = multiplied_out(x, y)
+            totals = rows.product_totals(x, y, squares)
+            self.assertEqual([product.pop(term, 0) for term in kept], [
+                totals[place_of(term)] for term in kept
+            ])
+            left = sum(map(abs, product.values()))
+            dropped = rows.dropped_part(x, y, squares)
+            (self.assertEqual if low > 0 else self.assertLessEqual)(left, dropped)
+            self.assertLessEqual(rows.absolute_sum(totals) + dropped, rows.span(x) * rows.span(y))
 
     def test_candidate_pair_has_two_divisions(self):
         """x = 5 + a + b + 2ab: by hand 16777216/5 and -16777216/25, then for (1,2)
