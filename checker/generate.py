@@ -444,7 +444,8 @@ FAR_VALUES = [
 
 
 def wrong_value(rng) -> bytes:
-    """A sheet in good layout with one or two numbers replaced: causes 3, 4 and 5."""
+    """A sheet in good layout with one or two numbers replaced: causes 3, 4 and 5. At times one of
+    their lines also breaks the layout: 2 comes first there."""
     data = sheet.text(accepted(rng, rng.randint(1, 6)).schedule())
     lines = data.split(b"\n")
     for _ in range(rng.randint(1, 2)):
@@ -452,6 +453,8 @@ def wrong_value(rng) -> bytes:
         fields = lines[chosen].split(b" ")
         fields[rng.randrange(len(fields))] = b"%d" % rng.choice(FAR_VALUES)
         lines[chosen] = b" ".join(fields)
+    if rng.random() < 0.15:
+        lines[chosen] += rng.choice((b" ", b" 0", b"\r", b"x", b"00000000000"))
     return b"\n".join(lines)
 
 

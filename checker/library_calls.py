@@ -256,12 +256,21 @@ def calls_on_spans():
 
 
 def calls_on_comparison():
-    """Rows that differ in one number; rows over the span, the lower one first."""
+    """Rows that differ in one number, or in numbers of equal ranges; rows over the span, the lower
+    one first."""
     for place in range(rows.NUMBERS):
         yield TABLE, 156, 3
         yield PUT, 52 + place, 4
         for first, second in ((1, 2), (2, 1), (1, 3), (2, 2)):
             yield SAME, 3, first, second
+    for first_place, second_place, value in ((7, 8, 3), (7, 7, -3), (7, 32, 3), (30, 36, -3)):
+        # The ranges agree, the numbers do not.
+        yield TABLE, 104, 0
+        yield PUT, first_place, 3
+        yield PUT, 52 + second_place, value
+        yield SAME, 2, 1, 2
+        yield RANGE, 2, 1
+        yield RANGE, 2, 2
     for over in itertools.product((0, SPAN + 1), repeat=3):
         yield TABLE, 156, 0
         for row, value in enumerate(over):

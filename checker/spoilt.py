@@ -1,14 +1,19 @@
-"""Row arithmetic got wrong in one place at a time: what the checker must be able to notice.
+"""Rows and sheets got wrong in one place at a time: what the checker must be able to notice.
 
-`spoilt(name)` is a context in which the module `rows` is wrong in the way named. In those of
-UNSOUND demand 3 fails, and demand3.py must find a sheet where it does; those of OTHER_NUMBERS give
-other numbers than 01, and the generated sheets must tell them from `rows`.
+`spoilt(name)` is a context in which the module `rows` or `sheet` is wrong in the way named. In
+those of UNSOUND demand 3 fails, and demand3.py must find a sheet where it does. Those of
+OTHER_NUMBERS give other numbers than 01, those of OTHER_SHEETS read otherwise than 01: the
+generated sheets must tell them from the right ones, and the cases of sheet_cases.py the latter.
+Those of OTHER_CALLS are wrong in `evaluation`, and the calls of library_calls.py must tell them.
 """
 
 import contextlib
+import re
 import unittest.mock
 
+import evaluation
 import rows
+import sheet
 
 REAL = {name: getattr(rows, name) for name in dir(rows) if callable(getattr(rows, name))}
 
@@ -302,8 +307,232 @@ OTHER_NUMBERS = {
 }
 
 
+class WithoutEnd(sheet.TextLines):
+    def end(self):
+        """Bytes that follow the last line are not looked at."""
+
+
+class WithoutLastByte10(sheet.TextLines):
+    def __init__(self, data):
+        super().__init__(data if data.endswith(b"\n") else data + b"\n")
+
+
+class WithCarriageReturns(sheet.TextLines):
+    def content(self):
+        return super().content().removesuffix(b"\r")
+
+
+class WithAnyBlanks(sheet.TextLines):
+    def numbers(self, count):
+        fields = self.content().split()
+        if len(fields) != count or not all(sheet.NUMBER.fullmatch(field) for field in fields):
+            raise sheet.Refusal(2, self.line)
+        return [int(field) for field in fields]
+
+
+class WithMoreFields(sheet.TextLines):
+    def numbers(self, count):
+        fields = self.content().split(b" ")
+        if len(fields) < count or not all(map(sheet.NUMBER.fullmatch, fields[:count])):
+            raise sheet.Refusal(2, self.line)
+        return [int(field) for field in fields[:count]]
+
+
+class WithNamesByLength(sheet.TextLines):
+    def names(self, expected):
+        if len(self.content()) != len(expected):
+            raise sheet.Refusal(2, self.line)
+
+
+class WithFirstFieldTestedFirst(sheet.TextLines):
+    """A first number beyond every limit gives 3, 4 or 5 before the rest of its line is read."""
+
+    def numbers(self, count):
+        first = self.data[self.start :].split(b"\n")[0].split(b" ")[0]
+        if sheet.NUMBER.fullmatch(first) and abs(int(first)) > sheet.END_LIMIT:
+            raise sheet.Refusal({3: 3, 2: 4, 4: 5}[count], self.line + 1)
+        return super().numbers(count)
+
+
+def counts_with_squares_to_6(counts):
+    return REAL_SHEET["counts_in_order"](
+        counts._replace(squares=0 if 0 <= counts.squares <= 6 else counts.squares)
+    )
+
+
+def ends_of_some_width(ends):
+    return REAL_SHEET["ends_in_order"](ends) and ends.low < ends.high
+
+
+def ends_in_any_order(ends):
+    return sheet.within_limits(ends.low) and sheet.within_limits(ends.high)
+
+
+def step_naming_itself(step, row):
+    return REAL_SHEET["step_in_order"](step, row + 1)
+
+
+def step_naming_row_0(step, row):
+    if step.code in (sheet.ADD, sheet.SUBTRACT, sheet.MULTIPLY, sheet.RECIPROCAL):
+        step = step._replace(first=step.first or 1)
+    return REAL_SHEET["step_in_order"](step, row)
+
+
+def step_with_any_second(step, row):
+    if step.code in (sheet.CONSTANT, sheet.RECIPROCAL):
+        step = step._replace(second=0)
+    return REAL_SHEET["step_in_order"](step, row)
+
+
+def step_with_any_value(step, row):
+    if step.code != sheet.CONSTANT:
+        step = step._replace(value=0)
+    return REAL_SHEET["step_in_order"](step, row)
+
+
+def step_with_any_first_for_constant(step, row):
+    if step.code == sheet.CONSTANT:
+        step = step._replace(first=0)
+    return REAL_SHEET["step_in_order"](step, row)
+
+
+REAL_SHEET = {
+    name: getattr(sheet, name) for name in ("counts_in_order", "ends_in_order", "step_in_order")
+}
+
+OTHER_SHEETS = {
+    "-0 is a number": {"NUMBER": re.compile(rb"-?0|-?[1-9][0-9]{0,9}")},
+    "a leading zero is read": {"NUMBER": re.compile(rb"0|-?[0-9]{1,10}")},
+    "a plus is read": {"NUMBER": re.compile(rb"0|[-+]?[1-9][0-9]{0,9}")},
+    "11 digits are read": {"NUMBER": re.compile(rb"0|-?[1-9][0-9]{0,10}")},
+    "9 digits at most": {"NUMBER": re.compile(rb"0|-?[1-9][0-9]{0,8}")},
+    "1,023 bytes at most": {"SHEET_LIMIT": 1023},
+    "1,025 bytes are read": {"SHEET_LIMIT": 1025},
+    "bytes may follow the last line": {"TextLines": WithoutEnd},
+    "the last byte 10 may be missing": {"TextLines": WithoutLastByte10},
+    "a line may end in 13 and 10": {"TextLines": WithCarriageReturns},
+    "any blanks between fields": {"TextLines": WithAnyBlanks},
+    "more fields than a line has": {"TextLines": WithMoreFields},
+    "names of the right length": {"TextLines": WithNamesByLength},
+    "3, 4 or 5 before 2": {"TextLines": WithFirstFieldTestedFirst},
+    "5 inputs at most": {"INPUTS_LIMIT": 5},
+    "23 steps at most": {"STEPS_LIMIT": 23},
+    "squares above inputs": {"counts_in_order": counts_with_squares_to_6},
+    "ends one further": {"END_LIMIT": sheet.END_LIMIT + 1},
+    "ends one less far": {"END_LIMIT": sheet.END_LIMIT - 1},
+    "ends of zero width refused": {"ends_in_order": ends_of_some_width},
+    "low above high": {"ends_in_order": ends_in_any_order},
+    "a step that names itself": {"step_in_order": step_naming_itself},
+    "a step that names row 0": {"step_in_order": step_naming_row_0},
+    "second not looked at where unused": {"step_in_order": step_with_any_second},
+    "value not looked at where unused": {"step_in_order": step_with_any_value},
+    "first not looked at where unused": {"step_in_order": step_with_any_first_for_constant},
+}
+
+
+def asking_refusal_in(order, rows_limit=evaluation.ROWS_LIMIT, wrapping=2**70, rows_order=sorted):
+    """The refusal of an asking call with its causes in another order, counts to another limit,
+    sums that wrap, or the rows asked for in another order."""
+
+    def asking_refusal(table, count, asked):
+        def by_9():
+            return (9, 0) if count > rows_limit or not all(0 < n <= count for n in asked) else None
+
+        def by_8():
+            return (8, 0) if len(table) < rows.NUMBERS * count % wrapping else None
+
+        def by_6():
+            for row in rows_order(asked):
+                numbers = evaluation.numbers_of(table, row) if row else []
+                if rows.span(numbers) % wrapping > rows.SPAN_LIMIT:
+                    return (6, row)
+            return None
+
+        tests = {9: by_9, 8: by_8, 6: by_6}
+        answers = [tests[number]() for number in order]
+        return evaluation.Answer(*next(filter(None, answers), (0, 0)))
+
+    return {"asking_refusal": asking_refusal}
+
+
+def same_by_ranges(table, count, first, second):
+    answer = REAL_CALLS["same_rows"](table, count, first, second)
+    ends = [evaluation.row_range(table, count, row)[2:] for row in (first, second)]
+    return answer._replace(same=not answer.number and ends[0] == ends[1])
+
+
+def same_by_first_numbers(table, count, first, second):
+    answer = REAL_CALLS["same_rows"](table, count, first, second)
+    parts = [evaluation.numbers_of(table, row)[:51] for row in (first, second)]
+    return answer._replace(same=not answer.number and parts[0] == parts[1])
+
+
+def evaluate_with_8_first(schedule, table):
+    if len(table) < rows.NUMBERS * (schedule.counts.inputs + schedule.counts.steps):
+        return evaluation.Answer(8, 0)
+    return REAL_CALLS["evaluate"](schedule, table)
+
+
+def evaluate_needing_a_full_table(schedule, table):
+    answer = REAL_CALLS["evaluate"](schedule, list(table))
+    if answer.number in (0, 6, 7) and len(table) < 1560:
+        return evaluation.Answer(8, 0)
+    return REAL_CALLS["evaluate"](schedule, table)
+
+
+def evaluate_and_clear(schedule, table):
+    """After 6 or 7 the row refused is cleared."""
+    answer = REAL_CALLS["evaluate"](schedule, table)
+    if answer.number in (6, 7):
+        table[52 * (answer.place - 1) : 52 * answer.place] = [0] * 52
+    return answer
+
+
+def evaluate_and_undo(schedule, table):
+    """After 6 or 7 no row is written."""
+    before = list(table)
+    answer = REAL_CALLS["evaluate"](schedule, table)
+    if answer.number:
+        table[:] = before
+    return answer
+
+
+def evaluate_one_number_further(schedule, table):
+    answer = REAL_CALLS["evaluate"](schedule, table)
+    needed = rows.NUMBERS * (schedule.counts.inputs + schedule.counts.steps)
+    if not answer.number and len(table) > needed:
+        table[needed] = 0
+    return answer
+
+
+REAL_CALLS = {name: getattr(evaluation, name) for name in ("evaluate", "same_rows")}
+
+OTHER_CALLS = {
+    "8 before 9": asking_refusal_in((8, 9, 6)),
+    "6 before 8": asking_refusal_in((9, 6, 8)),
+    "a count of 31": asking_refusal_in((9, 8, 6), rows_limit=31),
+    "a count of 29 at most": asking_refusal_in((9, 8, 6), rows_limit=29),
+    "sums that wrap at 2^64": asking_refusal_in((9, 8, 6), wrapping=2**64),
+    "sums that wrap at 2^32": asking_refusal_in((9, 8, 6), wrapping=2**32),
+    "6 of the higher row first": asking_refusal_in(
+        (9, 8, 6), rows_order=lambda asked: sorted(asked, reverse=True)
+    ),
+    "6 of the row named first": asking_refusal_in((9, 8, 6), rows_order=list),
+    "rows the same by their ranges": {"same_rows": same_by_ranges},
+    "rows the same without their last number": {"same_rows": same_by_first_numbers},
+    "8 before 3, 4, 5": {"evaluate": evaluate_with_8_first},
+    "a full table needed": {"evaluate": evaluate_needing_a_full_table},
+    "the refused row cleared": {"evaluate": evaluate_and_clear},
+    "no row written beside a refusal": {"evaluate": evaluate_and_undo},
+    "a number written beyond the rows": {"evaluate": evaluate_one_number_further},
+}
+
+
 @contextlib.contextmanager
 def spoilt(name):
-    """`rows` with the parts named replaced."""
-    with unittest.mock.patch.multiple(rows, **(UNSOUND | OTHER_NUMBERS)[name]):
+    """The module that the name's group is about, with the parts named replaced."""
+    groups = [(rows, UNSOUND), (rows, OTHER_NUMBERS), (sheet, OTHER_SHEETS)]
+    groups += [(evaluation, OTHER_CALLS)]
+    module, parts = next((module, group[name]) for module, group in groups if name in group)
+    with unittest.mock.patch.multiple(module, **parts):
         yield

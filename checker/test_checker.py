@@ -474,17 +474,21 @@ class Generators(unittest.TestCase):
         self.assertEqual(sorted(outcomes), list(range(8)))
         self.assertGreater(outcomes[0], 600)
 
-    def test_the_first_sheets_tell_every_spoilt_arithmetic(self):
+    def test_the_first_sheets_tell_every_fault(self):
         """A program with any of these faults would not get through compare.py."""
-        sheets = [generate.sheet_bytes("01", index) for index in range(4000)]
-        expected = [listing.listing(data) for data in sheets]
-        for name in spoilt.UNSOUND | spoilt.OTHER_NUMBERS:
+        sheets = [generate.sheet_bytes("01", index) for index in range(6000)]
+        self.assert_told(listing.listing, sheets, spoilt.UNSOUND | spoilt.OTHER_NUMBERS)
+        self.assert_told(lambda data: sheet.read(data)[:2], sheets, spoilt.OTHER_SHEETS)
+
+    def test_the_cases_tell_every_fault_of_reading(self):
+        self.assert_told(sheet_cases.expected, sheet_cases.cases(), spoilt.OTHER_SHEETS)
+
+    def assert_told(self, answer, sheets, names):
+        expected = [answer(data) for data in sheets]
+        for name in names:
             with self.subTest(name), spoilt.spoilt(name):
                 pairs = zip(sheets, expected)
-                self.assertTrue(any(self.differs(data, right) for data, right in pairs))
-
-    def differs(self, data, right):
-        return listing.listing(data) != right
+                self.assertTrue(any(answer(data) != right for data, right in pairs))
 
 
 class LibraryCalls(unittest.TestCase):
@@ -507,6 +511,13 @@ class LibraryCalls(unittest.TestCase):
         self.assertEqual(seen[b"range"], {0, 6, 8, 9})
         self.assertEqual(seen[b"same"], {0, 6, 8, 9})
         self.assertEqual(seen[b"write"], {0, 3, 4, 5, 8})
+
+    def test_the_calls_tell_every_fault(self):
+        every = library_calls.calls()
+        expected = library_calls.expected(every)
+        for name in spoilt.OTHER_CALLS:
+            with self.subTest(name), spoilt.spoilt(name):
+                self.assertFalse(library_calls.expected(every) == expected)
 
     def test_a_schedule_comes_back_from_its_numbers(self):
         numbers = library_calls.flat(library_calls.GOOD)
