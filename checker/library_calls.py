@@ -28,12 +28,12 @@ Every printed number is decimal, has one space before it, and every line ends in
 """
 
 import itertools
-import pathlib
 import sys
 
 import evaluation
 import rows
 import sheet
+import stored
 
 END, TABLE, PUT, SCHEDULE, EVALUATE, RANGE, ROW, SAME, WRITE = range(9)
 
@@ -312,14 +312,11 @@ def expected(every) -> bytes:
     return b"".join(library.printed)
 
 
-def main(folder: str) -> None:
-    target = pathlib.Path(folder)
-    (target / "data").mkdir(parents=True, exist_ok=True)
+def files() -> dict[str, bytes]:
+    """The files of the crate, by their paths in it."""
     every = calls()
-    (target / "data" / "calls").write_bytes(b"".join(map(encoded, every)))
-    (target / "stdout").write_bytes(expected(every))
-    print(f"{len(every)} calls")
+    return {"data/calls": b"".join(map(encoded, every)), "stdout": expected(every)}
 
 
 if __name__ == "__main__":
-    main(*sys.argv[1:])
+    stored.write(sys.argv[1], files())

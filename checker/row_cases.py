@@ -79,6 +79,12 @@ def example_line(label, work) -> str:
     return " ".join(map(str, [label, *row, rows.low(row), rows.high(row)]))
 
 
+def files() -> dict[str, bytes]:
+    """The files of the crate, by their paths in it."""
+    lines = [example_line(label, work) + "\n" for label, work in EXAMPLES]
+    return {"stdout": "".join(lines).encode()}
+
+
 if __name__ == "__main__":
     for label, work in EXAMPLES + (REFUSALS if sys.argv[1:] == ["refusals"] else []):
         print(example_line(label, work))

@@ -10,10 +10,10 @@ many bytes. `stdout` holds for each case either the line `refused NUMBER PLACE`,
 1,200 bytes.
 """
 
-import pathlib
 import sys
 
 import sheet
+import stored
 
 TINY = sheet.schedule(0, [(0, 0)], [(1, 0, 0, 0)])
 PLAIN = sheet.schedule(
@@ -258,16 +258,14 @@ def expected(case: bytes) -> bytes:
     return b"accepted %d\n" % written.length + out[: written.length]
 
 
-def main(folder: str) -> None:
-    target = pathlib.Path(folder)
-    (target / "data").mkdir(parents=True, exist_ok=True)
+def files() -> dict[str, bytes]:
+    """The files of the crate, by their paths in it."""
     every = cases()
-    (target / "data" / "sheets").write_bytes(
-        b"".join(b"%d\n" % len(case) + case for case in every)
-    )
-    (target / "stdout").write_bytes(b"".join(map(expected, every)))
-    print(f"{len(every)} sheets")
+    return {
+        "data/sheets": b"".join(b"%d\n" % len(case) + case for case in every),
+        "stdout": b"".join(map(expected, every)),
+    }
 
 
 if __name__ == "__main__":
-    main(*sys.argv[1:])
+    stored.write(sys.argv[1], files())

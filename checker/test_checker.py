@@ -1,6 +1,7 @@
 """Tests of the checker itself: 01's examples, its listing, its traps, and demand 3.
 
     python3 -m unittest discover checker
+    python3 checker/test_checker.py           (prints `N passed, M failed` as its last line)
 """
 
 import collections
@@ -8,6 +9,7 @@ import pathlib
 import random
 import subprocess
 import sys
+import tempfile
 import unittest
 
 import demand3
@@ -19,6 +21,7 @@ import rows
 import sheet
 import sheet_cases
 import spoilt
+import stored
 
 EXAMPLE_SHEET = b"""\
 inputs squares steps
@@ -524,6 +527,26 @@ class LibraryCalls(unittest.TestCase):
         self.assertEqual(library_calls.schedule_of(numbers), library_calls.GOOD)
 
 
+class StoredOutputs(unittest.TestCase):
+    def test_a_file_that_differs_or_is_missing_fails(self):
+        files = sheet_cases.files()
+        with tempfile.TemporaryDirectory() as folder:
+            self.assertFalse(stored.agrees(folder, "stdout", files["stdout"]))
+            stored.write(folder, files)
+            for path, content in files.items():
+                self.assertTrue(stored.agrees(folder, path, content))
+                self.assertFalse(stored.agrees(folder, path, content + b"\n"))
+
+    def test_the_data_can_be_taken_apart_again(self):
+        data = sheet_cases.files()["data/sheets"]
+        taken = []
+        while data:
+            length, _, data = data.partition(b"\n")
+            taken.append(data[: int(length)])
+            data = data[int(length) :]
+        self.assertEqual(taken, sheet_cases.cases())
+
+
 class Comparison(unittest.TestCase):
     def test_a_wrong_program_fails(self):
         """/bin/cat prints the sheet, which no answer is."""
@@ -537,5 +560,12 @@ class Comparison(unittest.TestCase):
         self.assertIn(b"inputs squares steps", ended.stdout)
 
 
+def main() -> int:
+    ended = unittest.main(exit=False).result
+    failed = len(ended.failures) + len(ended.errors)
+    print(f"{ended.testsRun - min(failed, ended.testsRun)} passed, {failed} failed")
+    return 1 if failed else 0
+
+
 if __name__ == "__main__":
-    unittest.main()
+    sys.exit(main())
