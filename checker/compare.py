@@ -112,7 +112,8 @@ def show(name, data, status, printed, expected) -> None:
 
 def names_of(options):
     if options.seed is not None:
-        return [(options.seed, index) for index in range(options.first, options.first + options.count)]
+        indices = range(options.first, options.first + options.count)
+        return [(options.seed, index) for index in indices]
     fresh = secrets.token_hex(4)
     print(f"seeds {FIXED_SEED} and {fresh}", flush=True)
     sweep = [(None, index) for index in range(len(generate.every_byte_at_every_place()))]

@@ -216,10 +216,6 @@ def limit_ends(rng) -> Draft:
     draft = any_draft(rng, at_the_limits)
     for _ in range(rng.randint(1, 8)):
         add_accepted_step(rng, draft)
-    return late_step(rng, draft)
-
-
-def late_step(rng, draft) -> Draft:
     any_step(rng, draft)
     return draft
 

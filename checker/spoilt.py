@@ -155,43 +155,46 @@ def floor(dividend, divisor):
     return dividend // divisor
 
 
+def crossing(x, row, i, j):
+    """The products that 01 takes from a candidate's pair."""
+    return row[i] * x[i] if i == j else row[i] * x[j] + row[j] * x[i]
+
+
+def first_quotient(x, place):
+    return (-rows.N * x[place]) // x[0] ** 2
+
+
+def right_pair(x, row, place, i, j):
+    return first_quotient(x, place) + (-crossing(x, row, i, j)) // x[0]
+
+
 def pair_in_one_division(x, row, place, i, j):
-    crossing = row[i] * x[i] if i == j else row[i] * x[j] + row[j] * x[i]
-    return (-rows.N * x[place] - crossing * x[0]) // (x[0] * x[0])
+    return (-rows.N * x[place] - crossing(x, row, i, j) * x[0]) // x[0] ** 2
 
 
 def pair_in_three_divisions(x, row, place, i, j):
     crossings = [row[i] * x[j]] if i == j else [row[i] * x[j], row[j] * x[i]]
-    return (-rows.N * x[place]) // (x[0] ** 2) + sum(-part // x[0] for part in crossings)
+    return first_quotient(x, place) + sum(-part // x[0] for part in crossings)
 
 
 def pair_minus_rounded_quotient(x, row, place, i, j):
-    crossing = row[i] * x[i] if i == j else row[i] * x[j] + row[j] * x[i]
-    return (-rows.N * x[place]) // (x[0] ** 2) - crossing // x[0]
+    return first_quotient(x, place) - crossing(x, row, i, j) // x[0]
 
 
 def pair_minus_rounded_first_quotient(x, row, place, i, j):
-    crossing = row[i] * x[i] if i == j else row[i] * x[j] + row[j] * x[i]
-    return -((rows.N * x[place]) // (x[0] ** 2)) + (-crossing) // x[0]
+    return -(rows.N * x[place] // x[0] ** 2) + (-crossing(x, row, i, j)) // x[0]
 
 
 def pair_with_one_cross_product(x, row, place, i, j):
-    return (-rows.N * x[place]) // (x[0] ** 2) + (-row[i] * x[j]) // x[0]
+    return first_quotient(x, place) + (-row[i] * x[j]) // x[0]
 
 
 def pair_without_its_own_coefficient(x, row, place, i, j):
-    crossing = row[i] * x[i] if i == j else row[i] * x[j] + row[j] * x[i]
-    return (-crossing) // x[0]
-
-
-def right_pair(x, row, place, i, j):
-    crossing = row[i] * x[i] if i == j else row[i] * x[j] + row[j] * x[i]
-    return (-rows.N * x[place]) // (x[0] ** 2) + (-crossing) // x[0]
+    return (-crossing(x, row, i, j)) // x[0]
 
 
 def pair_toward_zero(x, row, place, i, j):
-    crossing = row[i] * x[i] if i == j else row[i] * x[j] + row[j] * x[i]
-    return (-rows.N * x[place]) // (x[0] ** 2) + toward_zero(-crossing, x[0])
+    return first_quotient(x, place) + toward_zero(-crossing(x, row, i, j), x[0])
 
 
 def linear_by_two_divisions(x, squares):
