@@ -1,0 +1,322 @@
+"""Library calls on hostile arguments, and what a program that makes them must print.
+
+    python3 checker/library_calls.py crates/library_calls
+
+writes `data/calls` and `stdout` into the folder given.
+
+`data/calls` is a row of fields of 17 bytes: 16 hexadecimal digits (0 to 9, a to f), which are the 64
+bits of an i64 or a usize, most significant first, and one byte that means nothing (a space, or
+byte 10 behind the last field of a call). The program keeps a table of at most 1,612 i64, of which
+it lends the first so many, and one schedule; at the start both are all 0 and the table lends
+nothing. A call is a code and its arguments, each one field:
+
+    1 LENGTH FILL         the table lends LENGTH numbers (at most 1,612), each of them FILL
+    2 PLACE VALUE         number PLACE of the table, from 0 and below its length, becomes VALUE
+    3 and 111 numbers     the schedule: inputs squares steps, 6 times low high, 24 times step first
+                          second value
+    4                     evaluate the schedule into the table; prints `evaluate NUMBER PLACE` and
+                          a line `table` with every number lent, afterwards
+    5 COUNT ROW           prints `range NUMBER PLACE LOW HIGH`
+    6 COUNT ROW           prints `row` with every number of the part handed back
+    7 COUNT FIRST SECOND  prints `same NUMBER PLACE YES`, where YES is 1 or 0
+    8 LENGTH              write the schedule into LENGTH bytes (at most 700), each `?` before;
+                          prints `write NUMBER PLACE LENGTH_OF_SHEET`, then the bytes lent as they
+                          are afterwards, and byte 10
+    0                     the end
+
+Every printed number is decimal, has one space before it, and every line ends in byte 10.
+"""
+
+import itertools
+import sys
+
+import evaluation
+import rows
+import sheet
+import stored
+
+END, TABLE, PUT, SCHEDULE, EVALUATE, RANGE, ROW, SAME, WRITE = range(9)
+
+TABLE_ROOM = 1_612
+WRITE_ROOM = 700
+LEAST, GREATEST = -(2**63), 2**63 - 1
+GREATEST_USIZE = 2**64 - 1
+SPAN = rows.SPAN_LIMIT
+# The least count whose product with 52 passes 2^64: the product that is kept is 36.
+COUNT_THAT_WRAPS = 2**64 // rows.NUMBERS + 1
+
+
+def flat(schedule) -> list[int]:
+    """The 111 numbers of a schedule."""
+    return [*schedule.counts, *itertools.chain(*schedule.ends), *itertools.chain(*schedule.steps)]
+
+
+def schedule_of(numbers) -> sheet.Schedule:
+    """The schedule of 111 numbers."""
+    ends, steps = numbers[3:15], numbers[15:]
+    return sheet.Schedule(
+        sheet.Counts(*numbers[:3]),
+        tuple(sheet.Ends(*ends[at : at + 2]) for at in range(0, len(ends), 2)),
+        tuple(sheet.Step(*steps[at : at + 4]) for at in range(0, len(steps), 4)),
+    )
+
+
+class Library:
+    """Makes the calls with the checker's own library and keeps what is printed."""
+
+    def __init__(self):
+        self.table = []
+        self.schedule = sheet.ZEROS
+        self.printed = []
+
+    def line(self, word, *numbers):
+        self.printed.append(" ".join([word, *map(str, numbers)]).encode() + b"\n")
+
+    def make(self, code, *arguments):
+        if code == TABLE:
+            length, fill = arguments
+            self.table = [fill] * length
+        elif code == PUT:
+            place, value = arguments
+            self.table[place] = value
+        elif code == SCHEDULE:
+            self.schedule = schedule_of(arguments)
+        elif code == EVALUATE:
+            self.line("evaluate", *evaluation.evaluate(self.schedule, self.table))
+            self.line("table", *self.table)
+        elif code == RANGE:
+            self.line("range", *evaluation.row_range(self.table, *arguments))
+        elif code == ROW:
+            self.line("row", *evaluation.row_part(self.table, *arguments))
+        elif code == SAME:
+            self.line("same", *map(int, evaluation.same_rows(self.table, *arguments)))
+        elif code == WRITE:
+            out = bytearray(b"?" * arguments[0])
+            self.line("write", *sheet.write(self.schedule, out))
+            self.printed.append(bytes(out) + b"\n")
+
+
+GOOD = sheet.schedule(
+    2,
+    [(-512, 512), (4096, 8191)],
+    [(1, 0, 0, -7), (4, 1, 2, 0), (5, 2, 0, 0), (2, 4, 5, 0), (3, 6, 4, 0)],
+)
+GOOD_ROWS = 7
+
+
+def changed(places) -> list[int]:
+    """The numbers of GOOD with some of them replaced; `places` are places among the 111."""
+    numbers = flat(GOOD)
+    for place, value in places.items():
+        numbers[place] = value
+    return numbers
+
+
+def end_place(input_number, field):
+    return 3 + 2 * (input_number - 1) + field
+
+
+def step_place(step_number, field):
+    return 15 + 4 * (step_number - 1) + field
+
+
+def beyond_counts(value):
+    """Every number of GOOD beyond its counts replaced."""
+    ends = range(end_place(3, 0), end_place(7, 0))
+    steps = range(step_place(6, 0), step_place(25, 0))
+    return {place: value for place in [*ends, *steps]}
+
+
+HOSTILE = [LEAST, -(2**32), -1, 0, 1, 2**32 + 1, GREATEST]
+
+
+def hostile_schedules():
+    """Counts of any value, ends and steps of any value, and garbage beyond the counts."""
+    yield flat(GOOD)
+    yield flat(sheet.ZEROS)
+    for value in (LEAST, -1, 1, 5, GREATEST):
+        yield changed(beyond_counts(value))
+        yield [value] * 111
+    for place in range(3):
+        for value in HOSTILE + [3, 6, 7, 24, 25]:
+            yield changed({place: value} | beyond_counts(1))
+    for counts in ((6, 6, 24), (7, 7, 24), (6, 6, 25), (2**32 + 2, 2, 5), (2, 2**32 + 2, 5)):
+        yield changed(dict(enumerate(counts)) | beyond_counts(0))
+    for place in (end_place(1, 0), end_place(1, 1), end_place(2, 0), end_place(2, 1)):
+        for value in HOSTILE + [sheet.END_LIMIT + 1, -sheet.END_LIMIT - 1]:
+            yield changed({place: value})
+    for step in (1, 2, 3, 5):
+        for field in range(4):
+            for value in HOSTILE + [3, 5, 6]:
+                yield changed({step_place(step, field): value})
+    yield changed({1: 3, end_place(1, 0): GREATEST})
+    yield changed({end_place(2, 0): GREATEST, step_place(1, 0): 0})
+    yield changed({end_place(1, 0): GREATEST, end_place(2, 0): GREATEST})
+    yield changed({step_place(2, 3): 1, step_place(5, 0): 6})
+
+
+def calls_on_schedules():
+    """Each hostile schedule, with a table and bytes that suffice, and with ones that are empty."""
+    for numbers in hostile_schedules():
+        yield SCHEDULE, *numbers
+        yield TABLE, rows.NUMBERS * GOOD_ROWS, -3
+        yield EVALUATE,
+        yield TABLE, 0, 0
+        yield EVALUATE,
+        yield WRITE, 200
+        yield WRITE, 0
+
+
+def calls_on_lengths():
+    """A table one number short, just long enough and longer; bytes likewise."""
+    needed = rows.NUMBERS * GOOD_ROWS
+    yield SCHEDULE, *flat(GOOD)
+    for fill in (0, 7, LEAST, GREATEST):
+        for length in (0, 1, 51, 52, needed - 1, needed, needed + 1, needed + 52):
+            yield TABLE, length, fill
+            yield EVALUATE,
+    sheet_length = len(sheet.text(GOOD))
+    for length in (0, 1, sheet_length - 1, sheet_length, sheet_length + 1, WRITE_ROOM):
+        yield WRITE, length
+    largest = sheet.schedule(6, [(-(2**28), -(2**28))] * 6, [(1, 0, 0, -(2**28))] * 24)
+    yield SCHEDULE, *flat(largest)
+    for length in (1559, 1560, TABLE_ROOM):
+        yield TABLE, length, 1
+        yield EVALUATE,
+    for length in (600, 601, 602):
+        yield WRITE, length
+
+
+def calls_on_refused_rows():
+    """6 and 7 at each row: the rows before are written, that row and later ones are left."""
+    for row in range(3, GOOD_ROWS + 1):
+        for refused_step in ((5, 1, 0, 0), (4, 2, row - 1, 0)):
+            steps = [(1, 0, 0, 2**28)] * (row - 3) + [refused_step]
+            steps += [(2, 1, 1, 0)] * (GOOD_ROWS - row)
+            yield SCHEDULE, *flat(sheet.schedule(1, [(-5, 6), (-(2**28), 2**28)], steps))
+            yield TABLE, rows.NUMBERS * GOOD_ROWS + 3, 11
+            yield EVALUATE,
+
+
+def asking(counts, asked):
+    for count in counts:
+        for row in asked:
+            yield RANGE, count, row
+            yield ROW, count, row
+            yield SAME, count, row, row
+
+
+COUNTS = [0, 1, 2, 30, 31, 2**32 + 1, COUNT_THAT_WRAPS, 2**63, GREATEST_USIZE]
+ROWS = [0, 1, 2, 3, 30, 31, 2**32 + 1, GREATEST_USIZE]
+
+
+def calls_on_counts_and_rows():
+    """Counts and rows of any value, tables empty, one number short and full of one number.
+
+    52 times 20,648,881 is the largest such product within the span.
+    """
+    for length, fill in [
+        (0, 0), (1, 0), (51, 0), (52, 0), (103, 0), (104, -1), (1559, 0), (1560, 0),
+        (1560, 20_648_881), (1560, 20_648_882), (1560, -20_648_881), (1560, -20_648_882),
+        (1560, LEAST), (1560, GREATEST), (TABLE_ROOM, 1),
+    ]:
+        yield TABLE, length, fill
+        yield from asking(COUNTS, ROWS)
+        for first, second in [(1, 2), (2, 1), (0, 1), (1, 0), (1, 31), (30, 1), (1, 30), (31, 0)]:
+            for count in (2, 29, 30, 31):
+                yield SAME, count, first, second
+
+
+def calls_on_spans():
+    """A row over the span by each of its numbers; sums that pass 2^63 and 2^64."""
+    for place in range(rows.NUMBERS):
+        for value in (SPAN, -SPAN, SPAN + 1, -SPAN - 1, LEAST):
+            yield TABLE, 104, 0
+            yield PUT, 52 + place, value
+            yield RANGE, 2, 2
+            yield SAME, 2, 2, 1
+    for group in [
+        {0: LEAST, 1: LEAST},
+        {0: GREATEST, 1: GREATEST, 2: 2},
+        {30: 2**62, 31: -(2**62), 50: 2**62, 51: -(2**62)},
+        {0: LEAST, 51: GREATEST, 7: 1},
+        {0: 2**63 - 2**29, 1: 2**29, 2: LEAST},
+        {0: 2**32, 1: -(2**32)},
+        {0: SPAN - 1, 51: 1},
+        {0: SPAN - 1, 51: 2},
+        {0: -SPAN + 2, 1: 1, 31: -1},
+        {0: -SPAN + 2, 1: -2, 31: -1},
+    ]:
+        yield TABLE, 52, 0
+        for place, value in group.items():
+            yield PUT, place, value
+        yield RANGE, 1, 1
+        yield ROW, 1, 1
+        yield SAME, 1, 1, 1
+
+
+def calls_on_comparison():
+    """Rows that differ in one number, or in numbers of equal ranges; rows over the span, the lower
+    one first."""
+    for place in range(rows.NUMBERS):
+        yield TABLE, 156, 3
+        yield PUT, 52 + place, 4
+        for first, second in ((1, 2), (2, 1), (1, 3), (2, 2)):
+            yield SAME, 3, first, second
+    for first_place, second_place, value in ((7, 8, 3), (7, 7, -3), (7, 32, 3), (30, 36, -3)):
+        # The ranges agree, the numbers do not.
+        yield TABLE, 104, 0
+        yield PUT, first_place, 3
+        yield PUT, 52 + second_place, value
+        yield SAME, 2, 1, 2
+        yield RANGE, 2, 1
+        yield RANGE, 2, 2
+    for over in itertools.product((0, SPAN + 1), repeat=3):
+        yield TABLE, 156, 0
+        for row, value in enumerate(over):
+            yield PUT, 52 * row + 5, value
+        for first, second in itertools.product((1, 2, 3), repeat=2):
+            yield SAME, 3, first, second
+        yield SAME, 2, 3, 1
+        yield SAME, 4, 3, 1
+        yield SAME, 3, 4, 1
+
+
+def calls_on_an_evaluated_table():
+    """Every row of an accepted evaluation asked for."""
+    yield SCHEDULE, *flat(GOOD)
+    yield TABLE, 400, 5
+    yield EVALUATE,
+    yield from asking([GOOD_ROWS], range(GOOD_ROWS + 2))
+    for first, second in itertools.product(range(1, GOOD_ROWS + 1), repeat=2):
+        yield SAME, GOOD_ROWS, first, second
+
+
+def calls() -> list[tuple]:
+    groups = (
+        calls_on_schedules, calls_on_lengths, calls_on_refused_rows, calls_on_counts_and_rows,
+        calls_on_spans, calls_on_comparison, calls_on_an_evaluated_table,
+    )
+    return [call for group in groups for call in group()] + [(END,)]
+
+
+def encoded(call) -> bytes:
+    """The fields of one call."""
+    return " ".join(f"{number % 2**64:016x}" for number in call).encode() + b"\n"
+
+
+def expected(every) -> bytes:
+    library = Library()
+    for call in every:
+        library.make(*call)
+    return b"".join(library.printed)
+
+
+def files() -> dict[str, bytes]:
+    """The files of the crate, by their paths in it."""
+    every = calls()
+    return {"data/calls": b"".join(map(encoded, every)), "stdout": expected(every)}
+
+
+if __name__ == "__main__":
+    stored.write(sys.argv[1], files())

@@ -1,0 +1,54 @@
+"""What the program prints for the bytes of a sheet (document 01, "What the program prints").
+
+    python3 checker/listing.py < SHEET
+"""
+
+import sys
+
+import evaluation
+import rows
+import sheet
+
+TABLE_LENGTH = 1_560
+
+
+def refusal_text(number: int, place: int) -> bytes:
+    """"For a refusal it prints `refused place` and one line with both."."""
+    return b"refused place\n%d %d\n" % (number, place)
+
+
+def first_same_row(table, row: int) -> int:
+    """"same is the first earlier row with identical 52 numbers, or 0."."""
+    numbers = evaluation.numbers_of(table, row)
+    for earlier in range(1, row):
+        if evaluation.numbers_of(table, earlier) == numbers:
+            return earlier
+    return 0
+
+
+def listing_line(table, count: int, row: int) -> bytes:
+    """"row low high own same"; "Own is the own coefficient"."""
+    low, high = evaluation.row_range(table, count, row)[2:]
+    own = evaluation.row_part(table, count, row)[row]
+    return b"%d %d %d %d %d\n" % (row, low, high, own, first_same_row(table, row))
+
+
+def listing(data: bytes) -> bytes:
+    """"It reads a sheet from standard input [...] and it prints"; "The program lends a table of
+    1,560 numbers, all zero at the start."."""
+    answer = sheet.read(data)
+    if answer.number:
+        return refusal_text(answer.number, answer.place)
+    table = [0] * TABLE_LENGTH
+    refusal = evaluation.evaluate(answer.schedule, table)
+    if refusal.number:
+        return refusal_text(*refusal)
+    count = answer.schedule.counts.inputs + answer.schedule.counts.steps
+    lines = [listing_line(table, count, row) for row in range(1, count + 1)]
+    return b"row low high own same\n" + b"".join(lines)
+
+
+assert TABLE_LENGTH == rows.NUMBERS * evaluation.ROWS_LIMIT
+
+if __name__ == "__main__":
+    sys.stdout.buffer.write(listing(sys.stdin.buffer.read()))

@@ -1,0 +1,90 @@
+"""What the program `row_examples` must print: P1 to P11 of document 01, row by row.
+
+    python3 checker/row_cases.py > crates/row_examples/stdout
+    python3 checker/row_cases.py refusals > ...      (with P12 and P13 behind them)
+
+One line for each example, its fields separated by one space: the label (`P1`); then `refused 6` or
+`refused 7`, or the 52 numbers of the resulting row (centre, 30 linear coefficients, 21 pair
+coefficients) followed by low and high of its range. P12 and P13, which are in two parts, have a line
+for each part, with `a` and `b` behind the label.
+
+Which row owns which symbol (row r owns symbol r):
+
+- P1, P2: the input is row 1 and owns symbol 1.
+- P3, P4: input 0 0 is row 1, the constants are rows 2 and 3, the product is row 4 and owns
+  symbol 4; squares 0.
+- P5, P6, P7: input 0 0 is row 1, the constant is row 2, the reciprocal is row 3 and owns symbol 3;
+  squares 0.
+- P8 (squares 1), P9 (squares 0): the input is row 1, the product is row 2 and owns symbol 2.
+- P10 (squares 1), P11 (squares 0): the input is row 1, the reciprocal is row 2 and owns symbol 2.
+- P12a (ends 1, 2), P12b (ends 1, 3): the input is row 1, the reciprocal is row 2 and owns symbol 2;
+  squares 0.
+- P13a (times 16,384), P13b (times 16,385): as P3.
+"""
+
+import sys
+
+import rows
+
+
+def input_alone(low, high):
+    return lambda: rows.input_row(low, high, 1)
+
+
+def product_of_constants(first, second):
+    return lambda: rows.multiply(rows.constant_row(first), rows.constant_row(second), 0, 4)
+
+
+def reciprocal_of_constant(value):
+    return lambda: rows.reciprocal(rows.constant_row(value), 0, 3)
+
+
+def square_of_input(low, high, squares):
+    return lambda: rows.multiply(
+        rows.input_row(low, high, 1), rows.input_row(low, high, 1), squares, 2
+    )
+
+
+def reciprocal_of_input(low, high, squares):
+    return lambda: rows.reciprocal(rows.input_row(low, high, 1), squares, 2)
+
+
+EXAMPLES = [
+    ("P1", input_alone(0, 1)),
+    ("P2", input_alone(-1, 0)),
+    ("P3", product_of_constants(1, 1)),
+    ("P4", product_of_constants(-1, 1)),
+    ("P5", reciprocal_of_constant(8192)),
+    ("P6", reciprocal_of_constant(12288)),
+    ("P7", reciprocal_of_constant(-12288)),
+    ("P8", square_of_input(4096, 8192, 1)),
+    ("P9", square_of_input(4096, 8192, 0)),
+    ("P10", reciprocal_of_input(4096, 8192, 1)),
+    ("P11", reciprocal_of_input(4096, 8192, 0)),
+]
+
+REFUSALS = [
+    ("P12a", reciprocal_of_input(1, 2, 0)),
+    ("P12b", reciprocal_of_input(1, 3, 0)),
+    ("P13a", product_of_constants(268_435_456, 16_384)),
+    ("P13b", product_of_constants(268_435_456, 16_385)),
+]
+
+
+def example_line(label, work) -> str:
+    try:
+        row = work()
+    except rows.RowRefusal as refusal:
+        return f"{label} refused {refusal.number}"
+    return " ".join(map(str, [label, *row, rows.low(row), rows.high(row)]))
+
+
+def files() -> dict[str, bytes]:
+    """The files of the crate, by their paths in it."""
+    lines = [example_line(label, work) + "\n" for label, work in EXAMPLES]
+    return {"stdout": "".join(lines).encode()}
+
+
+if __name__ == "__main__":
+    for label, work in EXAMPLES + (REFUSALS if sys.argv[1:] == ["refusals"] else []):
+        print(example_line(label, work))

@@ -1,0 +1,541 @@
+"""Rows and sheets got wrong in one place at a time: what the checker must be able to notice.
+
+`spoilt(name)` is a context in which the module `rows` or `sheet` is wrong in the way named. In
+those of UNSOUND demand 3 fails, and demand3.py must find a sheet where it does. Those of
+OTHER_NUMBERS give other numbers than 01, those of OTHER_SHEETS read otherwise than 01: the
+generated sheets must tell them from the right ones, and the cases of sheet_cases.py the latter.
+Those of OTHER_CALLS are wrong in `evaluation`, and the calls of library_calls.py must tell them.
+"""
+
+import contextlib
+import re
+import unittest.mock
+
+import evaluation
+import rows
+import sheet
+
+REAL = {name: getattr(rows, name) for name in dir(rows) if callable(getattr(rows, name))}
+
+
+def one_less(name):
+    """The operation with its own coefficient one smaller."""
+
+    def operation(*arguments):
+        row = list(REAL[name](*arguments))
+        own = arguments[-1]
+        row[own] = max(row[own] - 1, 0)
+        return row
+
+    return {name: operation}
+
+
+def on_shared_symbol(name):
+    """The operation with its own coefficient moved to the last symbol. Row 30 owns that symbol
+    itself and is refused, so that sheets of 30 rows play no part."""
+
+    def operation(*arguments):
+        own = arguments[-1]
+        if own == rows.SYMBOLS:
+            raise rows.RowRefusal(6)
+        row = list(REAL[name](*arguments))
+        row[own], moved = 0, row[own]
+        row[rows.SYMBOLS] += moved
+        return row
+
+    return operation
+
+
+def half_width_input(low_end, high_end, own):
+    row = REAL["input_row"](low_end, high_end, own)
+    row[own] = (high_end - low_end) // 2
+    return row
+
+
+def multiply_without_remainders(x, y, squares, own):
+    row = REAL["multiply"](x, y, squares, own)
+    row[own] = rows.up(rows.dropped_part(x, y, squares), rows.UNIT)
+    return row
+
+
+def multiply_with_own_rounded_down(x, y, squares, own):
+    row = REAL["multiply"](x, y, squares, own)
+    totals = rows.product_totals(x, y, squares)
+    remainders = sum(total % rows.UNIT for total in totals)
+    row[own] = (rows.dropped_part(x, y, squares) + remainders) // rows.UNIT
+    return row
+
+
+def error_without_dropped_part(x, candidate, squares):
+    return REAL["candidate_error"](x, candidate, squares) - rows.dropped_part(x, candidate, squares)
+
+
+def distance_of_centre(row):
+    REAL["distance_from_zero"](row)
+    return abs(row[0])
+
+
+def distance_of_far_end(row):
+    REAL["distance_from_zero"](row)
+    return max(abs(rows.low(row)), abs(rows.high(row)))
+
+
+def low_with_pairs_from_0(row):
+    """Pairs of different symbols counted from 0, as if they were squares."""
+    return REAL["low"](row) + sum(max(row[place], 0) for place in rows.MIXED_PLACES)
+
+
+def low_without_squares(row):
+    return REAL["low"](row) - sum(min(row[place], 0) for place in rows.SQUARED_PLACES)
+
+
+def high_without_squares(row):
+    return REAL["high"](row) - sum(max(row[place], 0) for place in rows.SQUARED_PLACES)
+
+
+def totals_with_one_cross_product(x, y, squares):
+    totals = REAL["product_totals"](x, y, squares)
+    for place, i, j in rows.PAIRS_IN_USE[squares]:
+        if i != j:
+            totals[place] -= x[j] * y[i]
+    return totals
+
+
+UNSOUND = {
+    "an input's own coefficient one smaller": one_less("input_row"),
+    "a product's own coefficient one smaller": one_less("multiply"),
+    "a reciprocal's own coefficient one smaller": one_less("reciprocal"),
+    "one symbol for the rounding of all steps": {
+        "multiply": on_shared_symbol("multiply"),
+        "reciprocal": on_shared_symbol("reciprocal"),
+    },
+    "half the width as an input's own coefficient": {"input_row": half_width_input},
+    "a product without its remainders": {"multiply": multiply_without_remainders},
+    "a product's own coefficient rounded down": {"multiply": multiply_with_own_rounded_down},
+    "no dropped part": {"dropped_part": lambda x, y, squares: 0},
+    "B without the dropped part": {"candidate_error": error_without_dropped_part},
+    "B divided by the far end": {"distance_from_zero": distance_of_far_end},
+    "pairs of different symbols counted from 0": {"low": low_with_pairs_from_0},
+    "low without negative squares": {"low": low_without_squares},
+    "high without positive squares": {"high": high_without_squares},
+    "one cross product missing": {"product_totals": totals_with_one_cross_product},
+}
+
+
+def toward_zero(dividend, divisor):
+    quotient = abs(dividend) // abs(divisor)
+    return quotient if (dividend < 0) == (divisor < 0) else -quotient
+
+
+def multiply_toward_zero(x, y, squares, own):
+    totals = rows.product_totals(x, y, squares)
+    row = [toward_zero(total, rows.UNIT) for total in totals]
+    left = sum(abs(total - rows.UNIT * part) for total, part in zip(totals, row))
+    row[own] = rows.up(rows.dropped_part(x, y, squares) + left, rows.UNIT)
+    return rows.span_tested(row)
+
+
+def candidate_by(divide, divide_pair):
+    """A candidate with other divisions, by the same formula."""
+
+    def candidate(x, squares):
+        c = x[0]
+        row = [0] * rows.NUMBERS
+        row[0] = divide(rows.N, c)
+        for i in rows.LINEAR_PLACES:
+            row[i] = divide(-rows.N * x[i], c * c)
+        for place, i, j in rows.PAIRS_IN_USE[squares]:
+            row[place] = divide_pair(x, row, place, i, j)
+        return row
+
+    return {"candidate": candidate}
+
+
+def floor(dividend, divisor):
+    return dividend // divisor
+
+
+def crossing(x, row, i, j):
+    """The products that 01 takes from a candidate's pair."""
+    return row[i] * x[i] if i == j else row[i] * x[j] + row[j] * x[i]
+
+
+def first_quotient(x, place):
+    return (-rows.N * x[place]) // x[0] ** 2
+
+
+def right_pair(x, row, place, i, j):
+    return first_quotient(x, place) + (-crossing(x, row, i, j)) // x[0]
+
+
+def pair_in_one_division(x, row, place, i, j):
+    return (-rows.N * x[place] - crossing(x, row, i, j) * x[0]) // x[0] ** 2
+
+
+def pair_in_three_divisions(x, row, place, i, j):
+    crossings = [row[i] * x[j]] if i == j else [row[i] * x[j], row[j] * x[i]]
+    return first_quotient(x, place) + sum(-part // x[0] for part in crossings)
+
+
+def pair_minus_rounded_quotient(x, row, place, i, j):
+    return first_quotient(x, place) - crossing(x, row, i, j) // x[0]
+
+
+def pair_minus_rounded_first_quotient(x, row, place, i, j):
+    return -(rows.N * x[place] // x[0] ** 2) + (-crossing(x, row, i, j)) // x[0]
+
+
+def pair_with_one_cross_product(x, row, place, i, j):
+    return first_quotient(x, place) + (-row[i] * x[j]) // x[0]
+
+
+def pair_without_its_own_coefficient(x, row, place, i, j):
+    return (-crossing(x, row, i, j)) // x[0]
+
+
+def pair_toward_zero(x, row, place, i, j):
+    return first_quotient(x, place) + toward_zero(-crossing(x, row, i, j), x[0])
+
+
+def linear_by_two_divisions(x, squares):
+    row = REAL["candidate"](x, squares)
+    for i in rows.LINEAR_PLACES:
+        row[i] = (-rows.N * x[i] // x[0]) // x[0]
+    return row
+
+
+def low_with_squares_from_minus_1(row):
+    return REAL["low"](row) - sum(max(row[place], 0) for place in rows.SQUARED_PLACES)
+
+
+def high_with_squares_from_minus_1(row):
+    return REAL["high"](row) - sum(min(row[place], 0) for place in rows.SQUARED_PLACES)
+
+
+def dropped_part_whole(x, y, squares):
+    return rows.absolute_sum(x[1:]) * rows.absolute_sum(y[1:])
+
+
+def dropped_part_linear_only(x, y, squares):
+    linear = slice(1, 1 + rows.SYMBOLS)
+    used = slice(1, 1 + squares)
+    return rows.absolute_sum(x[linear]) * rows.absolute_sum(y[linear]) - rows.absolute_sum(
+        x[used]
+    ) * rows.absolute_sum(y[used])
+
+
+def error_with_totals_divided(x, candidate, squares):
+    totals = [total // rows.UNIT * rows.UNIT for total in rows.product_totals(x, candidate, squares)]
+    totals[0] -= rows.N
+    return rows.absolute_sum(totals) + rows.dropped_part(x, candidate, squares)
+
+
+def error_with_n_kept(x, candidate, squares):
+    totals = rows.product_totals(x, candidate, squares)
+    totals[0] = 0
+    return rows.absolute_sum(totals) + rows.dropped_part(x, candidate, squares)
+
+
+def multiply_without_remainder_of_centre(x, y, squares, own):
+    row = REAL["multiply"](x, y, squares, own)
+    totals = rows.product_totals(x, y, squares)
+    remainders = sum(total % rows.UNIT for total in totals[1:])
+    row[own] = rows.up(rows.dropped_part(x, y, squares) + remainders, rows.UNIT)
+    return row
+
+
+def multiply_with_roundings_apart(x, y, squares, own):
+    row = REAL["multiply"](x, y, squares, own)
+    totals = rows.product_totals(x, y, squares)
+    remainders = sum(total % rows.UNIT for total in totals)
+    row[own] = rows.up(rows.dropped_part(x, y, squares), rows.UNIT) + rows.up(remainders, rows.UNIT)
+    return rows.span_tested(row)
+
+
+def reciprocal_with_6_first(x, squares, own):
+    if x[0] != 0:
+        rows.span_tested(rows.candidate(x, squares))
+    return REAL["reciprocal"](x, squares, own)
+
+
+def distance_with_0_at_low(row):
+    if row[0] == 0 or rows.low(row) < 0 <= rows.high(row):
+        raise rows.RowRefusal(7)
+    return rows.low(row) or 1 if rows.low(row) >= 0 else -rows.high(row)
+
+
+def distance_with_0_at_high(row):
+    if row[0] == 0 or rows.low(row) <= 0 < rows.high(row):
+        raise rows.RowRefusal(7)
+    return rows.low(row) if rows.low(row) > 0 else -rows.high(row) or 1
+
+
+def input_centre_toward_zero(low_end, high_end, own):
+    row = REAL["input_row"](low_end, high_end, own)
+    row[0] = toward_zero(low_end + high_end, 2)
+    row[own] = max(high_end - row[0], row[0] - low_end)
+    return row
+
+
+OTHER_NUMBERS = {
+    "a product rounded toward zero": {"multiply": multiply_toward_zero},
+    "a candidate rounded toward zero": candidate_by(toward_zero, right_pair),
+    "a candidate's pair rounded toward zero": candidate_by(floor, pair_toward_zero),
+    "a candidate's pair in one division": candidate_by(floor, pair_in_one_division),
+    "a candidate's pair in three divisions": candidate_by(floor, pair_in_three_divisions),
+    "a candidate's pair less a rounded quotient": candidate_by(floor, pair_minus_rounded_quotient),
+    "minus outside the division by c²": candidate_by(floor, pair_minus_rounded_first_quotient),
+    "a candidate's pair with one cross product": candidate_by(floor, pair_with_one_cross_product),
+    "a candidate's pair without the operand's": candidate_by(
+        floor, pair_without_its_own_coefficient
+    ),
+    "a candidate's linear part by two divisions": {"candidate": linear_by_two_divisions},
+    "low with squares from -1": {"low": low_with_squares_from_minus_1},
+    "high with squares from -1": {"high": high_with_squares_from_minus_1},
+    "the dropped part without the subtraction": {"dropped_part": dropped_part_whole},
+    "the dropped part of linear absolutes alone": {"dropped_part": dropped_part_linear_only},
+    "B from divided totals": {"candidate_error": error_with_totals_divided},
+    "B without the centre's total": {"candidate_error": error_with_n_kept},
+    "B divided by the centre": {"distance_from_zero": distance_of_centre},
+    "a product without the centre's remainder": {"multiply": multiply_without_remainder_of_centre},
+    "a product with two roundings up": {"multiply": multiply_with_roundings_apart},
+    "6 before 7": {"reciprocal": reciprocal_with_6_first},
+    "a reciprocal where low is 0": {"distance_from_zero": distance_with_0_at_low},
+    "a reciprocal where high is 0": {"distance_from_zero": distance_with_0_at_high},
+    "the span limit one more": {"SPAN_LIMIT": rows.SPAN_LIMIT + 1},
+    "the span limit one less": {"SPAN_LIMIT": rows.SPAN_LIMIT - 1},
+    "an input's centre toward zero": {"input_row": input_centre_toward_zero},
+    "one square more in use": {"PAIRS_IN_USE": rows.PAIRS_IN_USE[1:] + rows.PAIRS_IN_USE[-1:]},
+    "one square less in use": {"PAIRS_IN_USE": rows.PAIRS_IN_USE[:1] + rows.PAIRS_IN_USE[:-1]},
+}
+
+
+class WithoutEnd(sheet.TextLines):
+    def end(self):
+        """Bytes that follow the last line are not looked at."""
+
+
+class WithoutLastByte10(sheet.TextLines):
+    def __init__(self, data):
+        super().__init__(data if data.endswith(b"\n") else data + b"\n")
+
+
+class WithCarriageReturns(sheet.TextLines):
+    def content(self):
+        return super().content().removesuffix(b"\r")
+
+
+class WithAnyBlanks(sheet.TextLines):
+    def numbers(self, count):
+        fields = self.content().split()
+        if len(fields) != count or not all(sheet.NUMBER.fullmatch(field) for field in fields):
+            raise sheet.Refusal(2, self.line)
+        return [int(field) for field in fields]
+
+
+class WithMoreFields(sheet.TextLines):
+    def numbers(self, count):
+        fields = self.content().split(b" ")
+        if len(fields) < count or not all(map(sheet.NUMBER.fullmatch, fields[:count])):
+            raise sheet.Refusal(2, self.line)
+        return [int(field) for field in fields[:count]]
+
+
+class WithNamesByLength(sheet.TextLines):
+    def names(self, expected):
+        if len(self.content()) != len(expected):
+            raise sheet.Refusal(2, self.line)
+
+
+class WithFirstFieldTestedFirst(sheet.TextLines):
+    """A first number beyond every limit gives 3, 4 or 5 before the rest of its line is read."""
+
+    def numbers(self, count):
+        first = self.data[self.start :].split(b"\n")[0].split(b" ")[0]
+        if sheet.NUMBER.fullmatch(first) and abs(int(first)) > sheet.END_LIMIT:
+            raise sheet.Refusal({3: 3, 2: 4, 4: 5}[count], self.line + 1)
+        return super().numbers(count)
+
+
+def counts_with_squares_to_6(counts):
+    return REAL_SHEET["counts_in_order"](
+        counts._replace(squares=0 if 0 <= counts.squares <= 6 else counts.squares)
+    )
+
+
+def ends_of_some_width(ends):
+    return REAL_SHEET["ends_in_order"](ends) and ends.low < ends.high
+
+
+def ends_in_any_order(ends):
+    return sheet.within_limits(ends.low) and sheet.within_limits(ends.high)
+
+
+def step_naming_itself(step, row):
+    return REAL_SHEET["step_in_order"](step, row + 1)
+
+
+def step_naming_row_0(step, row):
+    if step.code in (sheet.ADD, sheet.SUBTRACT, sheet.MULTIPLY, sheet.RECIPROCAL):
+        step = step._replace(first=step.first or 1)
+    return REAL_SHEET["step_in_order"](step, row)
+
+
+def step_with_any_second(step, row):
+    if step.code in (sheet.CONSTANT, sheet.RECIPROCAL):
+        step = step._replace(second=0)
+    return REAL_SHEET["step_in_order"](step, row)
+
+
+def step_with_any_value(step, row):
+    if step.code != sheet.CONSTANT:
+        step = step._replace(value=0)
+    return REAL_SHEET["step_in_order"](step, row)
+
+
+def step_with_any_first_for_constant(step, row):
+    if step.code == sheet.CONSTANT:
+        step = step._replace(first=0)
+    return REAL_SHEET["step_in_order"](step, row)
+
+
+REAL_SHEET = {
+    name: getattr(sheet, name) for name in ("counts_in_order", "ends_in_order", "step_in_order")
+}
+
+OTHER_SHEETS = {
+    "-0 is a number": {"NUMBER": re.compile(rb"-?0|-?[1-9][0-9]{0,9}")},
+    "a leading zero is read": {"NUMBER": re.compile(rb"0|-?[0-9]{1,10}")},
+    "a plus is read": {"NUMBER": re.compile(rb"0|[-+]?[1-9][0-9]{0,9}")},
+    "11 digits are read": {"NUMBER": re.compile(rb"0|-?[1-9][0-9]{0,10}")},
+    "9 digits at most": {"NUMBER": re.compile(rb"0|-?[1-9][0-9]{0,8}")},
+    "1,023 bytes at most": {"SHEET_LIMIT": 1023},
+    "1,025 bytes are read": {"SHEET_LIMIT": 1025},
+    "bytes may follow the last line": {"TextLines": WithoutEnd},
+    "the last byte 10 may be missing": {"TextLines": WithoutLastByte10},
+    "a line may end in 13 and 10": {"TextLines": WithCarriageReturns},
+    "any blanks between fields": {"TextLines": WithAnyBlanks},
+    "more fields than a line has": {"TextLines": WithMoreFields},
+    "names of the right length": {"TextLines": WithNamesByLength},
+    "3, 4 or 5 before 2": {"TextLines": WithFirstFieldTestedFirst},
+    "5 inputs at most": {"INPUTS_LIMIT": 5},
+    "23 steps at most": {"STEPS_LIMIT": 23},
+    "squares above inputs": {"counts_in_order": counts_with_squares_to_6},
+    "ends one further": {"END_LIMIT": sheet.END_LIMIT + 1},
+    "ends one less far": {"END_LIMIT": sheet.END_LIMIT - 1},
+    "ends of zero width refused": {"ends_in_order": ends_of_some_width},
+    "low above high": {"ends_in_order": ends_in_any_order},
+    "a step that names itself": {"step_in_order": step_naming_itself},
+    "a step that names row 0": {"step_in_order": step_naming_row_0},
+    "second not looked at where unused": {"step_in_order": step_with_any_second},
+    "value not looked at where unused": {"step_in_order": step_with_any_value},
+    "first not looked at where unused": {"step_in_order": step_with_any_first_for_constant},
+}
+
+
+def asking_refusal_in(order, rows_limit=evaluation.ROWS_LIMIT, wrapping=2**70, rows_order=sorted):
+    """The refusal of an asking call with its causes in another order, counts to another limit,
+    sums that wrap, or the rows asked for in another order."""
+
+    def asking_refusal(table, count, asked):
+        def by_9():
+            return (9, 0) if count > rows_limit or not all(0 < n <= count for n in asked) else None
+
+        def by_8():
+            return (8, 0) if len(table) < rows.NUMBERS * count % wrapping else None
+
+        def by_6():
+            for row in rows_order(asked):
+                numbers = evaluation.numbers_of(table, row) if row else []
+                if rows.span(numbers) % wrapping > rows.SPAN_LIMIT:
+                    return (6, row)
+            return None
+
+        tests = {9: by_9, 8: by_8, 6: by_6}
+        answers = [tests[number]() for number in order]
+        return evaluation.Answer(*next(filter(None, answers), (0, 0)))
+
+    return {"asking_refusal": asking_refusal}
+
+
+def same_by_ranges(table, count, first, second):
+    answer = REAL_CALLS["same_rows"](table, count, first, second)
+    ends = [evaluation.row_range(table, count, row)[2:] for row in (first, second)]
+    return answer._replace(same=not answer.number and ends[0] == ends[1])
+
+
+def same_by_first_numbers(table, count, first, second):
+    answer = REAL_CALLS["same_rows"](table, count, first, second)
+    parts = [evaluation.numbers_of(table, row)[:51] for row in (first, second)]
+    return answer._replace(same=not answer.number and parts[0] == parts[1])
+
+
+def evaluate_with_8_first(schedule, table):
+    if len(table) < rows.NUMBERS * (schedule.counts.inputs + schedule.counts.steps):
+        return evaluation.Answer(8, 0)
+    return REAL_CALLS["evaluate"](schedule, table)
+
+
+def evaluate_needing_a_full_table(schedule, table):
+    answer = REAL_CALLS["evaluate"](schedule, list(table))
+    if answer.number in (0, 6, 7) and len(table) < 1560:
+        return evaluation.Answer(8, 0)
+    return REAL_CALLS["evaluate"](schedule, table)
+
+
+def evaluate_and_clear(schedule, table):
+    """After 6 or 7 the row refused is cleared."""
+    answer = REAL_CALLS["evaluate"](schedule, table)
+    if answer.number in (6, 7):
+        table[52 * (answer.place - 1) : 52 * answer.place] = [0] * 52
+    return answer
+
+
+def evaluate_and_undo(schedule, table):
+    """After 6 or 7 no row is written."""
+    before = list(table)
+    answer = REAL_CALLS["evaluate"](schedule, table)
+    if answer.number:
+        table[:] = before
+    return answer
+
+
+def evaluate_one_number_further(schedule, table):
+    answer = REAL_CALLS["evaluate"](schedule, table)
+    needed = rows.NUMBERS * (schedule.counts.inputs + schedule.counts.steps)
+    if not answer.number and len(table) > needed:
+        table[needed] = 0
+    return answer
+
+
+REAL_CALLS = {name: getattr(evaluation, name) for name in ("evaluate", "same_rows")}
+
+OTHER_CALLS = {
+    "8 before 9": asking_refusal_in((8, 9, 6)),
+    "6 before 8": asking_refusal_in((9, 6, 8)),
+    "a count of 31": asking_refusal_in((9, 8, 6), rows_limit=31),
+    "a count of 29 at most": asking_refusal_in((9, 8, 6), rows_limit=29),
+    "sums that wrap at 2^64": asking_refusal_in((9, 8, 6), wrapping=2**64),
+    "sums that wrap at 2^32": asking_refusal_in((9, 8, 6), wrapping=2**32),
+    "6 of the higher row first": asking_refusal_in(
+        (9, 8, 6), rows_order=lambda asked: sorted(asked, reverse=True)
+    ),
+    "6 of the row named first": asking_refusal_in((9, 8, 6), rows_order=list),
+    "rows the same by their ranges": {"same_rows": same_by_ranges},
+    "rows the same without their last number": {"same_rows": same_by_first_numbers},
+    "8 before 3, 4, 5": {"evaluate": evaluate_with_8_first},
+    "a full table needed": {"evaluate": evaluate_needing_a_full_table},
+    "the refused row cleared": {"evaluate": evaluate_and_clear},
+    "no row written beside a refusal": {"evaluate": evaluate_and_undo},
+    "a number written beyond the rows": {"evaluate": evaluate_one_number_further},
+}
+
+
+@contextlib.contextmanager
+def spoilt(name):
+    """The module that the name's group is about, with the parts named replaced."""
+    groups = [(rows, UNSOUND), (rows, OTHER_NUMBERS), (sheet, OTHER_SHEETS)]
+    groups += [(evaluation, OTHER_CALLS)]
+    module, parts = next((module, group[name]) for module, group in groups if name in group)
+    with unittest.mock.patch.multiple(module, **parts):
+        yield

@@ -1,0 +1,571 @@
+"""Tests of the checker itself: 01's examples, its listing, its traps, and demand 3.
+
+    python3 -m unittest discover checker
+    python3 checker/test_checker.py           (prints `N passed, M failed` as its last line)
+"""
+
+import collections
+import pathlib
+import random
+import subprocess
+import sys
+import tempfile
+import unittest
+
+import demand3
+import evaluation
+import generate
+import library_calls
+import listing
+import rows
+import sheet
+import sheet_cases
+import spoilt
+import stored
+
+EXAMPLE_SHEET = b"""\
+inputs squares steps
+1 1 6
+low high
+-512 512
+step first second value
+1 0 0 4096
+2 1 2 0
+4 3 3 0
+1 0 0 8192
+4 5 1 0
+3 4 6 0
+"""
+
+EXAMPLE_LISTING = b"""\
+row low high own same
+1 -512 512 512 0
+2 4096 4096 0 0
+3 3584 4608 0 0
+4 3072 5184 0 0
+5 8192 8192 0 0
+6 -1024 1024 0 0
+7 4096 4160 0 0
+"""
+
+
+def last_row(squares, ends, steps):
+    """The last row of the sheet with these ends and steps, or its refusal (number, place)."""
+    handed = sheet.schedule(squares, ends, steps)
+    sheet.test(handed)
+    worked = evaluation.work(handed)
+    return worked.rows[-1] if not worked.number else (worked.number, worked.place)
+
+
+def constant_steps(*values):
+    return [(1, 0, 0, value) for value in values]
+
+
+def of_two_constants(code, first, second):
+    """Constants as rows 2 and 3 of a sheet with one input 0 0, and row 4 their sum, product ..."""
+    return last_row(0, [(0, 0)], [*constant_steps(first, second), (code, 2, 3, 0)])
+
+
+def reciprocal_of_constant(value):
+    return last_row(0, [(0, 0)], [*constant_steps(value), (5, 2, 0, 0)])
+
+
+def reciprocal_of_input(low, high, squares):
+    return last_row(squares, [(low, high)], [(5, 1, 0, 0)])
+
+
+def numbers(centre, linear, pairs=()):
+    """A row from its centre and the coefficients that are not 0."""
+    row = [0] * 52
+    row[0] = centre
+    for symbol, coefficient in linear.items():
+        row[symbol] = coefficient
+    for index, coefficient in enumerate(pairs):
+        row[31 + index] = coefficient
+    return row
+
+
+class ProvedExamples(unittest.TestCase):
+    """P1 to P13, "Proved examples" of document 01, and its listing."""
+
+    def test_p1_ends_0_1(self):
+        row = rows.input_row(0, 1, 1)
+        self.assertEqual(row, numbers(0, {1: 1}))
+        self.assertEqual((rows.low(row), rows.high(row)), (-1, 1))
+
+    def test_p2_ends_minus_1_0(self):
+        row = rows.input_row(-1, 0, 1)
+        self.assertEqual(row, numbers(-1, {1: 1}))
+        self.assertEqual((rows.low(row), rows.high(row)), (-2, 0))
+
+    def test_p3_1_times_1(self):
+        row = of_two_constants(4, 1, 1)
+        self.assertEqual((rows.low(row), rows.high(row)), (-1, 1))
+
+    def test_p4_minus_1_times_1(self):
+        self.assertEqual(of_two_constants(4, -1, 1), numbers(-1, {4: 1}))
+
+    def test_p5_reciprocal_of_8192(self):
+        self.assertEqual(reciprocal_of_constant(8192), numbers(2048, {}))
+
+    def test_p6_reciprocal_of_12288(self):
+        self.assertEqual(reciprocal_of_constant(12288), numbers(1365, {3: 1}))
+
+    def test_p7_reciprocal_of_minus_12288(self):
+        self.assertEqual(reciprocal_of_constant(-12288), numbers(-1366, {3: 1}))
+
+    def test_p8_square_with_squares_1(self):
+        row = last_row(1, [(4096, 8192)], [(4, 1, 1, 0)])
+        self.assertEqual(row, numbers(9216, {1: 6144}, [1024]))
+
+    def test_p9_square_with_squares_0(self):
+        row = last_row(0, [(4096, 8192)], [(4, 1, 1, 0)])
+        self.assertEqual(row, numbers(9216, {1: 6144, 2: 1024}))
+        self.assertEqual((rows.low(row), rows.high(row)), (2048, 16384))
+
+    def test_p10_reciprocal_with_squares_1(self):
+        row = reciprocal_of_input(4096, 8192, 1)
+        self.assertEqual(row, numbers(2730, {1: -911, 2: 155}, [303]))
+
+    def test_p11_reciprocal_with_squares_0(self):
+        row = reciprocal_of_input(4096, 8192, 0)
+        self.assertEqual(row, numbers(2730, {1: -911, 2: 458}))
+
+    def test_p12_reciprocal_of_narrow_inputs(self):
+        for squares in (0, 1):
+            self.assertEqual(reciprocal_of_input(1, 2, squares), (7, 2))
+            self.assertEqual(len(reciprocal_of_input(1, 3, squares)), 52)
+
+    def test_p13_span(self):
+        self.assertEqual(of_two_constants(4, 268_435_456, 16_384), numbers(2**30, {}))
+        self.assertEqual(of_two_constants(4, 268_435_456, 16_385), (6, 4))
+
+    def test_the_listing_of_01(self):
+        self.assertEqual(listing.listing(EXAMPLE_SHEET), EXAMPLE_LISTING)
+
+
+class Traps(unittest.TestCase):
+    """"Traps for the builder": each one changes an example as 01 says it does."""
+
+    def test_rounding_toward_zero(self):
+        with spoilt.spoilt("a product rounded toward zero"):
+            self.assertNotEqual(of_two_constants(4, -1, 1)[0], -1)
+        with spoilt.spoilt("a candidate rounded toward zero"):
+            self.assertNotEqual(reciprocal_of_constant(-12288)[0], -1366)
+
+    def test_counting_squares_from_minus_1(self):
+        with spoilt.spoilt("low with squares from -1"):
+            self.assertEqual(listing.listing(EXAMPLE_SHEET).split(b"\n")[7], b"7 4032 4160 0 0")
+
+    def test_one_symbol_for_all_roundings(self):
+        steps = [*constant_steps(1, 2), (4, 2, 2, 0), (4, 2, 3, 0), (3, 5, 4, 0)]
+        row = last_row(0, [(0, 0)], steps)
+        self.assertEqual((rows.low(row), rows.high(row)), (-2, 2))
+        with spoilt.spoilt("one symbol for the rounding of all steps"):
+            row = last_row(0, [(0, 0)], steps)
+            self.assertEqual((rows.low(row), rows.high(row)), (0, 0))
+
+    def test_half_the_width(self):
+        with spoilt.spoilt("half the width as an input's own coefficient"):
+            self.assertEqual(rows.high(rows.input_row(0, 1, 1)), 0)
+
+
+def place_of(term):
+    """The place in a row of a term, given as the symbols that it multiplies."""
+    return rows.PAIR_PLACE[term] if len(term) == 2 else sum(term)
+
+
+def multiplied_out(x, y):
+    """The product of two forms, each of its terms by itself."""
+    terms = [(), *((i,) for i in range(1, 31)), *rows.PAIRS]
+    product = collections.Counter()
+    for first, p in zip(terms, x):
+        for second, q in zip(terms, y):
+            product[tuple(sorted(first + second))] += p * q
+    return product
+
+
+class Rows(unittest.TestCase):
+    def test_pair_places(self):
+        self.assertEqual(rows.NUMBERS, 52)
+        self.assertEqual(rows.PAIR_PLACE[1, 1], 31)
+        self.assertEqual(rows.PAIR_PLACE[1, 6], 36)
+        self.assertEqual(rows.PAIR_PLACE[2, 2], 37)
+        self.assertEqual(rows.PAIR_PLACE[6, 6], 51)
+
+    def test_product_of_two_inputs(self):
+        """(1 + a)(2 + 3b) with squares 2, in units of 4096 and by hand."""
+        row = last_row(2, [(0, 8192), (-4096, 20480)], [(4, 1, 2, 0)])
+        self.assertEqual(row, numbers(8192, {1: 8192, 2: 12288}, [0, 12288]))
+
+    def test_product_with_one_square_drops_the_rest(self):
+        row = last_row(1, [(0, 8192), (-4096, 20480)], [(4, 1, 2, 0)])
+        self.assertEqual(row, numbers(8192, {1: 8192, 2: 12288, 3: 12288}))
+
+    def test_totals_are_the_kept_part_of_the_polynomial_product(self):
+        """Multiplied out term by term, the kept terms are the totals, and the absolutes of the
+        others add up to at most the dropped part (to just that where all numbers are positive)."""
+        rng = random.Random(8)
+        for _ in range(60):
+            squares = rng.randint(0, 6)
+            low = rng.choice((-9, 1))
+            x, y = ([rng.randint(low, 9) for _ in range(52)] for _ in range(2))
+            kept = [(), *((i,) for i in range(1, 31))]
+            kept += [pair for pair in rows.PAIRS if pair[1] <= squares]
+            for row in (x, y):
+                for place, pair in enumerate(rows.PAIRS, 31):
+                    row[place] *= pair in kept
+            product = multiplied_out(x, y)
+            totals = rows.product_totals(x, y, squares)
+            self.assertEqual([product.pop(term, 0) for term in kept], [
+                totals[place_of(term)] for term in kept
+            ])
+            left = sum(map(abs, product.values()))
+            dropped = rows.dropped_part(x, y, squares)
+            (self.assertEqual if low > 0 else self.assertLessEqual)(left, dropped)
+            self.assertLessEqual(rows.absolute_sum(totals) + dropped, rows.span(x) * rows.span(y))
+
+    def test_candidate_pair_has_two_divisions(self):
+        """x = 5 + a + b + 2ab: by hand 16777216/5 and -16777216/25, then for (1,2)
+        floor(-2·16777216/25) + floor(2·671089/5)."""
+        operand = numbers(5, {1: 1, 2: 1}, [0, 2])
+        made = rows.candidate(operand, 2)
+        self.assertEqual(made[:3], [3355443, -671089, -671089])
+        self.assertEqual(made[31:34], [134217, -1342178 + 268435, 0])
+        self.assertEqual(made[37], 134217)
+
+    def test_range_of_every_kind_of_number(self):
+        row = numbers(10, {1: -1, 30: 2}, [4, -8])
+        row[37] = -16
+        self.assertEqual((rows.low(row), rows.high(row)), (10 - 3 - 8 - 16, 10 + 3 + 8 + 4))
+
+
+class Reading(unittest.TestCase):
+    """Reader and writer, with the readings that the team decided (docs/DECISIONS.md)."""
+
+    def refusal(self, data):
+        answer = sheet.read(data)
+        if answer.number:
+            self.assertEqual(answer.schedule, sheet.ZEROS)
+        return answer.number, answer.place
+
+    def test_order_of_causes(self):
+        start = b"inputs squares steps\n"
+        ends = start + b"1 0 1\nlow high\n"
+        steps = ends + b"0 0\nstep first second value\n"
+        for data, expected in [
+            (b"", (2, 1)),
+            (b"x" * 1024, (2, 1)),
+            (b"x" * 1025, (1, 0)),
+            (start, (2, 2)),
+            (start[:-1], (2, 1)),
+            (start + b"9 0 01\n", (2, 2)),
+            (start + b"9 0 1\n", (3, 2)),
+            (start + b"9 0 1", (2, 2)),
+            (start + b"1 2 1\n", (3, 2)),
+            (start + b"1 -1 1\n", (3, 2)),
+            (start + b"1 0 25\n", (3, 2)),
+            (start + b"1 0 10000000000\n", (2, 2)),
+            (start + b"1 0 9999999999\n", (3, 2)),
+            (start + b"1 0 1\n", (2, 3)),
+            (ends, (2, 4)),
+            (ends + b"1 0\n", (4, 4)),
+            (ends + b"1 00\n", (2, 4)),
+            (ends + b"1 0", (2, 4)),
+            (ends + b"-268435457 0\n", (4, 4)),
+            (steps, (2, 6)),
+            (steps + b"1 0 0 268435456\n", (0, 0)),
+            (steps + b"1 0 0 268435457\n", (5, 6)),
+            (steps + b"1 0 0 268435456", (2, 6)),
+            (steps + b"1 0 0 0\n\n", (2, 7)),
+            (steps + b"1 0 0 0\n" + b"0" * 2000, (1, 0)),
+            (steps + b"6 0 0 0\n\n", (5, 6)),
+            (steps + b"2 1 2 0\n", (5, 6)),
+            (steps + b"2 1 0 0\n", (5, 6)),
+            (steps + b"2 1 1 1\n", (5, 6)),
+            (steps + b"5 1 1 0\n", (5, 6)),
+            (steps + b"5 1 0 0\n", (0, 0)),
+            (steps + b"1 1 0 0\n", (5, 6)),
+        ]:
+            with self.subTest(data=data[:200]):
+                self.assertEqual(self.refusal(data), expected)
+
+    def test_numbers(self):
+        start = b"inputs squares steps\n1 0 1\nlow high\n"
+        for field in (b"-0", b"00", b"01", b"+1", b"-", b"", b"1\r", b"\t1", b"1\0", b"- 1", b"1_0"):
+            with self.subTest(field=field):
+                self.assertEqual(self.refusal(start + field + b" 0\n"), (2, 4))
+        self.assertEqual(self.refusal(start + b"-9999999999 0\n"), (4, 4))
+
+    def test_sheet_cases_are_many_and_of_every_kind(self):
+        cases = sheet_cases.cases()
+        self.assertGreaterEqual(len(cases), 300)
+        self.assertLessEqual(max(map(len, cases)), sheet_cases.LONGEST_CASE)
+        outcomes = {self.refusal(case) for case in cases}
+        layout = {(2, line) for line in range(1, 11)}
+        self.assertLessEqual({(0, 0), (1, 0), (3, 2), (4, 4), (4, 5)} | layout, outcomes)
+        self.assertLessEqual({(5, 7), (5, 8), (5, 9)}, outcomes)
+
+    def test_both_round_trips(self):
+        for index in range(400):
+            data = generate.sheet_bytes("round trip", index)
+            answer = sheet.read(data)
+            out = bytearray(b"?" * (len(data) + 3))
+            written = sheet.write(answer.schedule, out)
+            if answer.number:
+                self.assertEqual(written, (3, 2, 0))
+                self.assertEqual(out, b"?" * len(out))
+            else:
+                self.assertEqual(written, (0, 0, len(data)))
+                self.assertEqual(out, data + b"???")
+                self.assertEqual(sheet.read(bytes(out[:-3])).schedule, answer.schedule)
+
+    def test_writer_needs_room(self):
+        handed = sheet.read(EXAMPLE_SHEET).schedule
+        out = bytearray(len(EXAMPLE_SHEET) - 1)
+        self.assertEqual(sheet.write(handed, out), (8, 0, 0))
+        self.assertEqual(out, bytes(len(out)))
+
+    def test_counts_of_any_value_are_3(self):
+        for counts in [(-(2**63), 0, 1), (1, 2**63 - 1, 1), (1, 0, 2**63 - 1), (7, 7, 25)]:
+            handed = sheet.ZEROS._replace(counts=sheet.Counts(*counts))
+            self.assertEqual(sheet.write(handed, bytearray(2000)), (3, 2, 0))
+            self.assertEqual(evaluation.evaluate(handed, [0] * 1560), (3, 2))
+
+    def test_what_lies_beyond_the_counts_changes_nothing(self):
+        handed = sheet.read(EXAMPLE_SHEET).schedule
+        filled = handed._replace(
+            ends=handed.ends[:1] + (sheet.Ends(2**63 - 1, -(2**63)),) * 5,
+            steps=handed.steps[:6] + (sheet.Step(9, 2**63 - 1, -(2**63), 5),) * 18,
+        )
+        tables, outs = ([7] * 400, [7] * 400), (bytearray(300), bytearray(300))
+        for schedule, table, out in zip((handed, filled), tables, outs):
+            self.assertEqual(evaluation.evaluate(schedule, table), (0, 0))
+            self.assertEqual(sheet.write(schedule, out).length, len(EXAMPLE_SHEET))
+        self.assertEqual(*tables)
+        self.assertEqual(*outs)
+
+
+class Evaluating(unittest.TestCase):
+    def test_writes_its_rows_and_no_others(self):
+        handed = sheet.read(EXAMPLE_SHEET).schedule
+        table = [-9] * (52 * 7 + 5)
+        self.assertEqual(evaluation.evaluate(handed, table), (0, 0))
+        self.assertEqual(table[52 * 7 :], [-9] * 5)
+        self.assertNotIn(-9, table[: 52 * 7])
+
+    def test_needs_52_numbers_for_each_row(self):
+        table = [-9] * (52 * 7 - 1)
+        self.assertEqual(evaluation.evaluate(sheet.read(EXAMPLE_SHEET).schedule, table), (8, 0))
+        self.assertEqual(table, [-9] * len(table))
+
+    def test_after_a_refusal_the_rows_before_are_written(self):
+        for step, number in [((5, 1, 0, 0), 7), ((4, 2, 2, 0), 6)]:
+            handed = sheet.schedule(0, [(-5, 5)], [(1, 0, 0, 2**28), step, (2, 1, 1, 0)])
+            table = [-9] * (52 * 4)
+            self.assertEqual(evaluation.evaluate(handed, table), (number, 3))
+            self.assertEqual(table[: 52 * 2], numbers(0, {1: 5}) + numbers(2**28, {}))
+            self.assertEqual(table[52 * 2 :], [-9] * (52 * 2))
+
+    def test_7_before_6(self):
+        """The operand is 1 - 2^20·a², squares 1: its range holds 0 and its candidate is over the
+        span."""
+        steps = [(4, 1, 1, 0), (1, 0, 0, 1), (3, 3, 2, 0), (5, 4, 0, 0)]
+        self.assertEqual(last_row(1, [(-65536, 65536)], steps), (7, 5))
+        steps[2] = (2, 3, 2, 0)
+        self.assertEqual(last_row(1, [(-65536, 65536)], steps), (6, 5))
+
+    def test_order_of_causes_where_rows_are_asked_for(self):
+        good, least = numbers(5, {2: 3}), [-(2**63)] * 52
+        table = good + least + good + least
+        asked = evaluation.row_range
+        self.assertEqual(asked(table, 4, 1), (0, 0, 2, 8))
+        self.assertEqual(asked(table, 4, 2), (6, 2, 0, 0))
+        self.assertEqual(asked(table, 4, 0), (9, 0, 0, 0))
+        self.assertEqual(asked(table, 4, 5), (9, 0, 0, 0))
+        self.assertEqual(asked(table, 5, 1), (8, 0, 0, 0))
+        self.assertEqual(asked(table, 31, 1), (9, 0, 0, 0))
+        self.assertEqual(asked([], 0, 0), (9, 0, 0, 0))
+        self.assertEqual(asked(table[:-1], 4, 2), (8, 0, 0, 0))
+        self.assertEqual(evaluation.row_part(table, 4, 3), good)
+        self.assertEqual(evaluation.row_part(table, 4, 2), [])
+        compare = evaluation.same_rows
+        self.assertEqual(compare(table, 4, 1, 3), (0, 0, True))
+        self.assertEqual(compare(table, 4, 4, 2), (6, 2, False))
+        self.assertEqual(compare(table, 4, 4, 1), (6, 4, False))
+        self.assertEqual(compare(table, 4, 2, 5), (9, 0, False))
+        self.assertEqual(compare(table, 5, 2, 4), (8, 0, False))
+
+    def test_span_of_a_lent_row(self):
+        for over in (0, 1):
+            row = numbers(-(2**30) + 52, {30: -1}, [-1] * 21)
+            row[2] = 30 + over
+            self.assertEqual(evaluation.row_range(row, 1, 1).number, 6 if over else 0)
+
+
+def schedules_read(seed, count):
+    """The schedules that are read among the first `count` sheets of a seed."""
+    answers = [sheet.read(generate.sheet_bytes(seed, index)) for index in range(count)]
+    return [answer.schedule for answer in answers if not answer.number]
+
+
+def violated_clauses(schedules):
+    """Each clause of demand 3 that fails on an accepted schedule, one after another, for two
+    choices of inputs and symbols."""
+    for index, schedule in enumerate(schedules):
+        rng = random.Random(index)
+        if evaluation.work(schedule).number:
+            continue
+        for _ in range(2):
+            inputs, symbols = demand3.any_inputs(rng, schedule), demand3.any_symbols(rng)
+            try:
+                yield from demand3.violations(schedule, inputs, symbols)
+            except demand3.TooLong:
+                break
+
+
+class Demand3(unittest.TestCase):
+    def test_holds_on_generated_sheets(self):
+        self.assertEqual(list(violated_clauses(schedules_read("demand 3", 2500))), [])
+
+    def test_holds_at_every_corner_of_a_sheet(self):
+        """(a·b + 1) / (a + b + 5/4), with a from -1/8 to 1/4 and b from 1/3 or so to 1."""
+        handed = sheet.schedule(
+            2,
+            [(-512, 1023), (1365, 4096)],
+            [(4, 1, 2, 0), (1, 0, 0, 4096), (2, 3, 4, 0), (2, 1, 2, 0), (1, 0, 0, 5120)]
+            + [(2, 6, 7, 0), (5, 8, 0, 0), (4, 5, 9, 0)],
+        )
+        rng = random.Random(3)
+        for a in range(-512, 1024, 307):
+            for b in range(1365, 4097, 683):
+                inputs = [demand3.Fraction(a, 4096), demand3.Fraction(b, 4096)]
+                symbols = demand3.any_symbols(rng)
+                self.assertEqual(demand3.violations(handed, inputs, symbols), [])
+
+    def test_teeth(self):
+        """In each unsound arithmetic a violation is found."""
+        schedules = schedules_read("teeth", 2000)
+        for name in spoilt.UNSOUND:
+            with self.subTest(name), spoilt.spoilt(name):
+                self.assertTrue(any(violated_clauses(schedules)))
+
+    def test_teeth_of_every_clause(self):
+        """Each clause is found violated in some unsound arithmetic."""
+        clauses = {demand3.EQUAL_EXACTLY_WHEN, demand3.FOUND, demand3.DIVISOR, demand3.RANGE}
+        schedules = schedules_read("clauses", 500)
+        seen = set()
+        for name in ("an input's own coefficient one smaller", "no dropped part"):
+            with spoilt.spoilt(name):
+                seen |= set(violated_clauses(schedules))
+        self.assertEqual(seen, clauses | {demand3.SAME})
+
+    def test_a_shared_symbol_narrows_ranges_and_confuses_rows(self):
+        schedules = schedules_read("shared", 1000)
+        with spoilt.spoilt("one symbol for the rounding of all steps"):
+            seen = set(violated_clauses(schedules))
+        self.assertLessEqual({demand3.RANGE, demand3.SAME}, seen)
+
+
+class Generators(unittest.TestCase):
+    def test_a_sheet_depends_on_seed_and_index_alone(self):
+        for index in range(40):
+            self.assertEqual(generate.sheet_bytes("1", index), generate.sheet_bytes("1", index))
+
+    def test_every_outcome_occurs(self):
+        outcomes = generate.outcomes("outcomes", 0, 2000)
+        self.assertEqual(sorted(outcomes), list(range(8)))
+        self.assertGreater(outcomes[0], 600)
+
+    def test_the_first_sheets_tell_every_fault(self):
+        """A program with any of these faults would not get through compare.py."""
+        sheets = [generate.sheet_bytes("01", index) for index in range(6000)]
+        self.assert_told(listing.listing, sheets, spoilt.UNSOUND | spoilt.OTHER_NUMBERS)
+        self.assert_told(lambda data: sheet.read(data)[:2], sheets, spoilt.OTHER_SHEETS)
+
+    def test_the_cases_tell_every_fault_of_reading(self):
+        self.assert_told(sheet_cases.expected, sheet_cases.cases(), spoilt.OTHER_SHEETS)
+
+    def assert_told(self, answer, sheets, names):
+        expected = [answer(data) for data in sheets]
+        for name in names:
+            with self.subTest(name), spoilt.spoilt(name):
+                pairs = zip(sheets, expected)
+                self.assertTrue(any(answer(data) != right for data, right in pairs))
+
+
+class LibraryCalls(unittest.TestCase):
+    def test_within_the_room_that_the_format_promises(self):
+        for call in library_calls.calls():
+            if call[0] == library_calls.TABLE:
+                self.assertLessEqual(call[1], library_calls.TABLE_ROOM)
+            if call[0] == library_calls.WRITE:
+                self.assertLessEqual(call[1], library_calls.WRITE_ROOM)
+            self.assertEqual(len(library_calls.encoded(call)), 17 * len(call))
+
+    def test_every_number_occurs(self):
+        lines = library_calls.expected(library_calls.calls()).split(b"\n")
+        fields = [line.split() for line in lines]
+        seen = {
+            word: {int(field[1]) for field in fields if field[:1] == [word]}
+            for word in (b"evaluate", b"range", b"same", b"write")
+        }
+        self.assertEqual(seen[b"evaluate"], {0, 3, 4, 5, 6, 7, 8})
+        self.assertEqual(seen[b"range"], {0, 6, 8, 9})
+        self.assertEqual(seen[b"same"], {0, 6, 8, 9})
+        self.assertEqual(seen[b"write"], {0, 3, 4, 5, 8})
+
+    def test_the_calls_tell_every_fault(self):
+        every = library_calls.calls()
+        expected = library_calls.expected(every)
+        for name in spoilt.OTHER_CALLS:
+            with self.subTest(name), spoilt.spoilt(name):
+                self.assertFalse(library_calls.expected(every) == expected)
+
+    def test_a_schedule_comes_back_from_its_numbers(self):
+        numbers = library_calls.flat(library_calls.GOOD)
+        self.assertEqual(library_calls.schedule_of(numbers), library_calls.GOOD)
+
+
+class StoredOutputs(unittest.TestCase):
+    def test_a_file_that_differs_or_is_missing_fails(self):
+        files = sheet_cases.files()
+        with tempfile.TemporaryDirectory() as folder:
+            self.assertFalse(stored.agrees(folder, "stdout", files["stdout"]))
+            stored.write(folder, files)
+            for path, content in files.items():
+                self.assertTrue(stored.agrees(folder, path, content))
+                self.assertFalse(stored.agrees(folder, path, content + b"\n"))
+
+    def test_the_data_can_be_taken_apart_again(self):
+        data = sheet_cases.files()["data/sheets"]
+        taken = []
+        while data:
+            length, _, data = data.partition(b"\n")
+            taken.append(data[: int(length)])
+            data = data[int(length) :]
+        self.assertEqual(taken, sheet_cases.cases())
+
+
+class Comparison(unittest.TestCase):
+    def test_a_wrong_program_fails(self):
+        """/bin/cat prints the sheet, which no answer is."""
+        program = pathlib.Path(__file__).with_name("compare.py")
+        ended = subprocess.run(
+            [sys.executable, program, "/bin/cat", "--seed", "1", "--count", "40"],
+            capture_output=True,
+        )
+        self.assertEqual(ended.returncode, 1)
+        self.assertEqual(ended.stdout.split(b"\n")[-2], b"0 passed, 40 failed")
+        self.assertIn(b"inputs squares steps", ended.stdout)
+
+
+def main() -> int:
+    ended = unittest.main(exit=False).result
+    failed = len(ended.failures) + len(ended.errors)
+    print(f"{ended.testsRun - min(failed, ended.testsRun)} passed, {failed} failed")
+    return 1 if failed else 0
+
+
+if __name__ == "__main__":
+    sys.exit(main())
