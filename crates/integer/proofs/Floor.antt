@@ -3,7 +3,7 @@
 use mathlib.Core.Path.{_≡_, refl, sym, ap, _∙_, subst}
 use mathlib.Core.Logic.{_≢_, ⊎-elim}
 use Prim.Native.Nat.{ℕ, zero, suc, _+_, _-_, _*_, _/_, _%_, _≤_, _<_, zero-le}
-use native.Mathlib.Nat.{div-add-mod', mod-lt, div-le-self, suc-mul, le-antisymm, lt-div-mul-add, div-lt-iff-lt-mul, le-of-mul-le-mul-right, lt-of-mul-lt-mul-right}
+use native.Mathlib.Nat.{div-add-mod', mod-lt, div-le-self, suc-mul, le-antisymm, lt-div-mul-add, div-lt-iff-lt-mul, le-of-mul-le-mul-right, lt-of-mul-lt-mul-right, zero-div}
 use native.Mathlib.Omega.{arith}
 use lib.IntN.{ℤ, pos, negsuc, negℤ, natAbs, _+ℤ_, _-ℤ_, _*ℤ_}
 use lib.Signed.{_≤ℤ_, _<ℤ_}
@@ -138,6 +138,11 @@ floor-unique {a} {d} {q} {r} n f = (same, left f same ∙ sym (left (floor-divid
 natAbs-floorBy : (a : ℤ) (m : ℕ) → natAbs (floorBy a m) ≤ natAbs a
 natAbs-floorBy (pos n) m = div-le-self n m
 natAbs-floorBy (negsuc n) m = let h = div-le-self n m in omega arith
+
+pub zero-quotient : (d : ℤ) → floorQuotient (pos 0) d ≡ pos 0
+unfolding floorQuotient
+zero-quotient (pos d) = ap pos (zero-div d)
+zero-quotient (negsuc d) = ap pos (zero-div (suc d))
 
 pub natAbs-quotient : (a d : ℤ) → natAbs (floorQuotient a d) ≤ natAbs a
 unfolding floorQuotient

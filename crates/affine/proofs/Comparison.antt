@@ -1,0 +1,85 @@
+-- The comparison of two lists of numbers, from an index on: what one pair of numbers tells of it; of two lists joined; and of two rows.
+-- By induction.
+use mathlib.Core.Path.{_≡_, refl, sym, ap, _∙_}
+use mathlib.Core.Bool.{Bool, true, false}
+use mathlib.Core.List.{List, [], _∷_, _++_}
+use Prim.Native.Nat.{ℕ, _+_, _^_, _≤_, _<_}
+use native.Mathlib.Numerals.{add-one}
+use native.Mathlib.Omega.{arith}
+use lib.IntN.{ℤ, pos, negsuc}
+use lib.ListN.{length, drop}
+use lib.Seq.{drop-cons, drop-length}
+use lib.Signed.{mag}
+use mir.Syntax.{w64}
+use mir.Val.{toZ, ofZ}
+use borrow.Author.Tests.{eq-eqb, ne-eqb}
+use Rattle.integer.proofs.Machine.{back}
+use Rattle.affine.specs.declared.Row.{Row}
+use Rattle.affine.specs.Lists.{pick, equal, at}
+use Rattle.affine.specs.Row.{agree, same}
+
+equal-same : (x : ℤ) → equal x x ≡ true
+equal-same (pos n) = eq-eqb n n refl
+equal-same (negsuc n) = eq-eqb n n refl
+
+equal-other : (x y : ℤ) → (x ≡ y → ⊥) → equal x y ≡ false
+equal-other (pos m) (pos n) h = ne-eqb m n (λ e. h (ap pos e))
+equal-other (pos m) (negsuc n) h = refl
+equal-other (negsuc m) (pos n) h = refl
+equal-other (negsuc m) (negsuc n) h = ne-eqb m n (λ e. h (ap negsuc e))
+
+-- numbers of equal bits
+pub equal-of-bits : {x y : ℤ} → mag x < 2 ^ 63 → mag y < 2 ^ 63 → ofZ w64 x ≡ ofZ w64 y → x ≡ y
+equal-of-bits h k e = sym (back h) ∙ ap (toZ w64) e ∙ back k
+
+-- a loop that compares n numbers: the answer from the start is the answer from index i on
+pub record Agreeing (n : ℕ) (xs ys : List ℤ) (i : ℕ) : Type 0 where
+  pub within : i ≤ n
+  pub from-here : agree xs ys ≡ agree (drop i xs) (drop i ys)
+
+pub agreeing-none : (n : ℕ) (xs ys : List ℤ) → Agreeing n xs ys 0
+agreeing-none n xs ys = record { within = omega arith; from-here = refl }
+
+module _ {n : ℕ} {xs ys : List ℤ} {i : ℕ} (s : Agreeing n xs ys i) (h : i < n) (long : length xs ≡ n) (long′ : length ys ≡ n) where
+  pub agreeing-more : at xs i ≡ at ys i → Agreeing n xs ys (i + 1)
+  unfolding agree
+  agreeing-more e =
+      record {
+        within = omega arith;
+        from-here = s .from-here ∙ rw (add-one, drop-cons xs i (pos 0) (omega arith), drop-cons ys i (pos 0) (omega arith), e) (simp (equal-same (at ys i)));
+      }
+
+  pub agreeing-other : (at xs i ≡ at ys i → ⊥) → agree xs ys ≡ false
+  unfolding agree
+  agreeing-other e =
+      s .from-here ∙ rw (drop-cons xs i (pos 0) (omega arith), drop-cons ys i (pos 0) (omega arith)) (simp (equal-other (at xs i) (at ys i) e))
+
+drop-end : (xs : List ℤ) (i : ℕ) → i ≡ length xs → drop i xs ≡ []
+drop-end xs i e = rw e (drop-length xs)
+
+pub agreeing-all : {n : ℕ} {xs ys : List ℤ} {i : ℕ} → Agreeing n xs ys i → n ≤ i → length xs ≡ n → length ys ≡ n → agree xs ys ≡ true
+unfolding agree
+agreeing-all {n} {xs} {ys} {i} s h long long′ = s .from-here ∙ rw (drop-end xs i (omega arith), drop-end ys i (omega arith))
+
+agree-append : (xs ys zs ws : List ℤ) → length xs ≡ length ys → agree (xs ++ zs) (ys ++ ws) ≡ pick (agree xs ys) (agree zs ws) false
+unfolding agree
+agree-append [] [] zs ws h = refl
+agree-append [] (y ∷ ys) zs ws h = absurd (omega arith)
+agree-append (x ∷ xs) [] zs ws h = absurd (omega arith)
+agree-append (x ∷ xs) (y ∷ ys) zs ws h = nested (equal x y) (agree xs ys) (agree zs ws) (agree-append xs ys zs ws (omega arith))
+  where
+    nested : (b d e : Bool) {c : Bool} → c ≡ pick d e false → pick b c false ≡ pick (pick b d false) e false
+    nested true d e p = p
+    nested false d e p = refl
+
+-- two rows, part by part
+module _ (x y : Row) where
+  pub same-by-centre : (x .centre ≡ y .centre → ⊥) → same x y ≡ false
+  unfolding agree
+  same-by-centre h = simp (equal-other (x .centre) (y .centre) h)
+
+  pub same-by-lists : x .centre ≡ y .centre → length (x .linear) ≡ length (y .linear)
+      → same x y ≡ pick (agree (x .linear) (y .linear)) (agree (x .pair) (y .pair)) false
+  unfolding agree
+  same-by-lists e long =
+      rw (e, equal-same (y .centre)) (agree-append (x .linear) (y .linear) (x .pair) (y .pair) long)

@@ -1,0 +1,47 @@
+-- Laws of choices, and of lists by index: what a tabulated list holds. By induction on its length.
+use mathlib.Core.Path.{_≡_, refl, ap, ap₂}
+use mathlib.Core.Bool.{Bool, true, false}
+use mathlib.Core.List.{List, [], _∷_, map}
+use Prim.Native.Nat.{ℕ, zero, suc, _<_}
+use native.Mathlib.Nat.{le-of-suc-le-suc, not-suc-le-zero}
+use native.Mathlib.Omega.{arith}
+use lib.IntN.{ℤ, pos}
+use lib.ListN.{length, getD}
+use Rattle.affine.specs.Lists.{pick, at, tabulate}
+
+-- what holds of both sides of a choice, each under its test, holds of the choice
+pub pick-elim : {A : Type 0} (P : A → Type 0) (b : Bool) (x y : A) → (b ≡ true → P x) → (b ≡ false → P y) → P (pick b x y)
+pick-elim P true x y f g = f refl
+pick-elim P false x y f g = g refl
+
+pub length-tabulate : {A : Type 0} (n : ℕ) (f : ℕ → A) → length (tabulate n f) ≡ n
+unfolding tabulate
+length-tabulate zero f = refl
+length-tabulate (suc n) f = ap suc (length-tabulate n (λ i. f (suc i)))
+
+pub getD-tabulate : {A : Type 0} (n : ℕ) (f : ℕ → A) (d : A) (i : ℕ) → i < n → getD (tabulate n f) i d ≡ f i
+unfolding tabulate
+getD-tabulate zero f d i h = absurd (not-suc-le-zero h)
+getD-tabulate (suc n) f d zero h = refl
+getD-tabulate (suc n) f d (suc i) h = getD-tabulate n (λ i. f (suc i)) d i (le-of-suc-le-suc h)
+
+pub at-tabulate : (n : ℕ) (f : ℕ → ℤ) (i : ℕ) → i < n → at (tabulate n f) i ≡ f i
+at-tabulate n f i h = getD-tabulate n f (pos 0) i h
+
+pub tabulate-cong : {A : Type 0} (n : ℕ) {f g : ℕ → A} → ((i : ℕ) → i < n → f i ≡ g i) → tabulate n f ≡ tabulate n g
+unfolding tabulate
+tabulate-cong zero h = refl
+tabulate-cong (suc n) h = ap₂ (λ x xs. x ∷ xs) (h 0 (omega arith)) (tabulate-cong n (λ i l. h (suc i) (omega arith)))
+
+pub map-tabulate : {A B : Type 0} (g : A → B) (n : ℕ) (f : ℕ → A) → map g (tabulate n f) ≡ tabulate n (λ i. g (f i))
+unfolding tabulate
+map-tabulate g zero f = refl
+map-tabulate g (suc n) f = ap (λ xs. g (f 0) ∷ xs) (map-tabulate g n (λ i. f (suc i)))
+
+-- a list is what its elements tabulate
+pub tabulate-at : (xs : List ℤ) (n : ℕ) → length xs ≡ n → tabulate n (at xs) ≡ xs
+unfolding tabulate
+tabulate-at [] zero h = refl
+tabulate-at [] (suc n) h = absurd (omega arith)
+tabulate-at (x ∷ xs) zero h = absurd (omega arith)
+tabulate-at (x ∷ xs) (suc n) h = ap (λ ys. x ∷ ys) (tabulate-at xs n (omega arith))

@@ -1,0 +1,31 @@
+-- The numbers of a row against its span: the span is the centre's, the linear and the pair absolutes added up.
+use mathlib.Core.Path.{_≡_, ap, _∙_}
+use Prim.Native.Nat.{ℕ, _+_, _≤_}
+use native.Mathlib.Omega.{arith}
+use lib.IntN.{natAbs}
+use Rattle.integer.specs.Sum.{sumAbs}
+use Rattle.integer.proofs.Sum.{sumAbs-append, sumAbs-element}
+use Rattle.affine.specs.declared.Row.{Row}
+use Rattle.affine.specs.Lists.{at}
+use Rattle.affine.specs.Row.{span}
+
+pub span-is-sum : (r : Row) → span r ≡ natAbs (r .centre) + (sumAbs (r .linear) + sumAbs (r .pair))
+unfolding span
+span-is-sum r = ap (λ n. natAbs (r .centre) + n) (sumAbs-append (r .linear) (r .pair))
+
+-- of a row whose span is at most n
+module _ {n : ℕ} (r : Row) (h : span r ≤ n) where
+  pub centre-within : natAbs (r .centre) ≤ n
+  centre-within = omega (arith, span-is-sum r)
+
+  pub linear-within : sumAbs (r .linear) ≤ n
+  linear-within = omega (arith, span-is-sum r)
+
+  pub pair-within : sumAbs (r .pair) ≤ n
+  pair-within = omega (arith, span-is-sum r)
+
+  pub linear-at-within : (i : ℕ) → natAbs (at (r .linear) i) ≤ n
+  linear-at-within i = omega (arith, linear-within, sumAbs-element (r .linear) i)
+
+  pub pair-at-within : (k : ℕ) → natAbs (at (r .pair) k) ≤ n
+  pair-at-within k = omega (arith, pair-within, sumAbs-element (r .pair) k)

@@ -1,0 +1,60 @@
+-- Sums over a list: one element more, no part above the whole, two lists joined. By induction on the list.
+use mathlib.Core.Path.{_≡_, refl, sym, ap, _∙_}
+use mathlib.Core.List.{List, [], _∷_, _++_}
+use Prim.Native.Nat.{ℕ, zero, suc, _+_, _≤_, _<_}
+use native.Mathlib.Nat.{add-zero, zero-add, add-assoc}
+use native.Mathlib.Numerals.{add-one}
+use native.Mathlib.Omega.{arith}
+use lib.IntN.{ℤ, pos, natAbs}
+use lib.ListN.{length, take}
+use lib.Seq.{take-suc}
+use Rattle.integer.specs.Sum.{sumAbs}
+use Rattle.integer.proofs.Sum.{sumAbs-more, sumAbs-take}
+use Rattle.affine.specs.Lists.{at, tabulate, sum}
+
+-- after all elements
+pub sumAbs-all : (xs : List ℤ) (n : ℕ) → length xs ≤ n → sumAbs (take n xs) ≡ sumAbs xs
+sumAbs-all [] zero h = refl
+sumAbs-all [] (suc n) h = refl
+sumAbs-all (x ∷ xs) zero h = absurd (omega arith)
+sumAbs-all (x ∷ xs) (suc n) h = ap (λ m. natAbs x + m) (sumAbs-all xs n (omega arith))
+
+-- ---- a loop that sums the absolute values of the first n numbers: its sum after i of them
+pub record Summed (n : ℕ) (xs : List ℤ) (i total : ℕ) : Type 0 where
+  pub within : i ≤ n
+  pub so-far : total ≡ sumAbs (take i xs)
+
+pub summed-none : (n : ℕ) (xs : List ℤ) → Summed n xs 0 0
+summed-none n xs = record { within = omega arith; so-far = refl }
+
+module _ {n : ℕ} {xs : List ℤ} {i total m : ℕ} (s : Summed n xs i total) (h : i < n) (long : n ≤ length xs) (e : m ≡ natAbs (at xs i)) where
+  pub summed-more : Summed n xs (i + 1) (total + m)
+  summed-more = record { within = omega arith; so-far = rw (sumAbs-more xs i (omega arith), s .so-far, e) }
+
+  -- so the sum does not wrap where the whole fits
+  pub summed-within : total + m ≤ sumAbs xs
+  summed-within = let t = sumAbs-take (i + 1) xs in omega (arith, summed-more .so-far)
+
+-- a 0 may be passed over
+pub summed-skip : {n : ℕ} {xs : List ℤ} {i total : ℕ} → Summed n xs i total → i < n → n ≤ length xs → at xs i ≡ pos 0 → Summed n xs (i + 1) total
+summed-skip {n} {xs} {i} {total} s h long z =
+    rw (add-zero total) at (summed-more {m = 0} s h long (sym (ap natAbs z)))
+
+pub summed-all : {n : ℕ} {xs : List ℤ} {i total : ℕ} → Summed n xs i total → n ≤ i → total ≡ sumAbs (take n xs)
+summed-all {n} {xs} {i} s h = let e : i ≡ n = omega arith in rw e at (s .so-far)
+
+pub summed-whole : {n : ℕ} {xs : List ℤ} {i total : ℕ} → Summed n xs i total → n ≤ i → length xs ≡ n → total ≡ sumAbs xs
+summed-whole {n} {xs} s h long = summed-all s h ∙ sumAbs-all xs n (omega arith)
+
+-- ---- a sum of natural numbers f 0, f 1 and so on: it is the sum of their absolute values as whole numbers
+pub sumAbs-tabulate : (n : ℕ) (f : ℕ → ℕ) → sumAbs (tabulate n (λ i. pos (f i))) ≡ sum (tabulate n f)
+unfolding sum tabulate
+sumAbs-tabulate zero f = refl
+sumAbs-tabulate (suc n) f = ap (λ m. f 0 + m) (sumAbs-tabulate n (λ i. f (suc i)))
+
+-- none of them above the absolute value of the number at its index
+pub sum-tabulate-le : (n : ℕ) (f : ℕ → ℕ) (xs : List ℤ) → ((i : ℕ) → f i ≤ natAbs (at xs i)) → sum (tabulate n f) ≤ sumAbs xs
+unfolding sum tabulate
+sum-tabulate-le zero f xs h = omega arith
+sum-tabulate-le (suc n) f [] h = let t = sum-tabulate-le n (λ i. f (suc i)) [] (λ i. h (suc i)) in omega (arith, h 0)
+sum-tabulate-le (suc n) f (x ∷ xs) h = let t = sum-tabulate-le n (λ i. f (suc i)) xs (λ i. h (suc i)) in omega (arith, h 0)

@@ -1,0 +1,112 @@
+-- `range::range_of` meets its contract: no end of the range is farther from 0 than the span, so none wraps.
+use mathlib.Core.Path.{_≡_, _∙_, ap₂}
+use Prim.Native.Nat.{ℕ, _+_, _≤_}
+use native.Mathlib.Omega.{arith}
+use lib.IntN.{pos, _+ℤ_, _-ℤ_}
+use lib.ListN.{length}
+use mir.Syntax.{w64}
+use mir.Val.{SFits, toZ, ofZ}
+use borrow.Author.Needs.{needs}
+use Rattle.integer.specs.Sum.{sumAbs}
+use Rattle.integer.proofs.Absolute.{fits-within}
+use Rattle.integer.proofs.Machine.{operation-fits, operation-gives}
+use Rattle.affine.specs.Limits.{symbols, spanLimit}
+use Rattle.affine.specs.Row.{low, high}
+use Rattle.affine.proofs.SumLaws.{sumAbs-all}
+use Rattle.affine.proofs.RowSize.{linear-within, pair-within}
+use Rattle.affine.proofs.RangeSize.{reachBelow, reachAbove, reach-below-within, reach-above-within, low-within, high-within}
+use Rattle.affine.proofs.range.range_of.Statement.{statement}
+use Rattle.affine.proofs.range.range_of.Tie as tie
+
+long : (c : tie.Start) → length (c .args .r .linear) ≡ symbols
+long c = search needs
+
+centre-fits : (c : tie.Start) → SFits w64 (c .args .r .centre)
+centre-fits c = search needs
+
+reach-fits : {n : ℕ} → n ≤ spanLimit → SFits w64 (pos n)
+reach-fits {n} h = record { sfits = omega arith }
+
+-- the two operations that give the ends
+low-step : (c : tie.Start)
+    → let r = c .args .r in
+    let z = toZ w64 (ofZ w64 (r .centre)) -ℤ toZ w64 (reachBelow r) in
+    SFits w64 z × (toZ w64 (ofZ w64 z) ≡ low r)
+unfolding low
+low-step c =
+    let r = c .args .r in
+    let f = centre-fits c in
+    let g = reach-fits (reach-below-within r (c .pre)) in
+    let e = fits-within (low r) spanLimit (low-within r (c .pre)) (omega arith) in
+    (operation-fits _-ℤ_ {a = r .centre} {b = pos (reachBelow r)} f g e, operation-gives _-ℤ_ {a = r .centre} {b = pos (reachBelow r)} f g e)
+
+high-step : (c : tie.Start)
+    → let r = c .args .r in
+    let z = toZ w64 (ofZ w64 (r .centre)) +ℤ toZ w64 (reachAbove r) in
+    SFits w64 z × (toZ w64 (ofZ w64 z) ≡ high r)
+unfolding high
+high-step c =
+    let r = c .args .r in
+    let f = centre-fits c in
+    let g = reach-fits (reach-above-within r (c .pre)) in
+    let e = fits-within (high r) spanLimit (high-within r (c .pre)) (omega arith) in
+    (operation-fits _+ℤ_ {a = r .centre} {b = pos (reachAbove r)} f g e, operation-gives _+ℤ_ {a = r .centre} {b = pos (reachAbove r)} f g e)
+
+linear-absolutes-requires : tie.Need-linear-absolutes-requires
+linear-absolutes-requires c κs = let s = c .before .before .before in (omega arith, linear-within (s .args .r) (s .pre))
+
+pairs-below-requires : tie.Need-pairs-below-requires
+pairs-below-requires c κs = let s = c .before .before .before .before in pair-within (s .args .r) (s .pre)
+
+-- what the linear coefficients and the pairs reach together
+linear-is : (c : tie.After-linear-absolutes) → c .linear-absolutes .result ≡ sumAbs (c .before .before .before .before .args .r .linear)
+linear-is c =
+    let s = c .before .before .before .before in
+    c .linear-absolutes .ensures ∙ sumAbs-all (s .args .r .linear) symbols (omega (arith, long s))
+
+below-is : (c : tie.After-pairs-below)
+    → c .before .linear-absolutes .result + c .pairs-below .result ≡ reachBelow (c .before .before .before .before .before .args .r)
+below-is c = ap₂ _+_ (linear-is (c .before)) (c .pairs-below .ensures)
+
+above-is : (c : tie.After-pairs-above)
+    → c .before .before .linear-absolutes .result + c .pairs-above .result ≡ reachAbove (c .before .before .before .before .before .before .args .r)
+above-is c = ap₂ _+_ (linear-is (c .before .before)) (c .pairs-above .ensures)
+
+add-below : tie.Need-add-below
+add-below c = let s = c .before .before .before .before .before in omega (arith, below-is c, reach-below-within (s .args .r) (s .pre))
+
+pairs-above-requires : tie.Need-pairs-above-requires
+pairs-above-requires c κs = let s = c .before .before .before .before .before in pair-within (s .args .r) (s .pre)
+
+add-above : tie.Need-add-above
+add-above c = let s = c .before .before .before .before .before .before in omega (arith, above-is c, reach-above-within (s .args .r) (s .pre))
+
+cast-t9 : tie.Need-cast-t9
+cast-t9 c = let s = c .before .before .before .before .before .before in rw (below-is (c .before)) (reach-fits (reach-below-within (s .args .r) (s .pre)))
+
+sub-t10 : tie.Need-sub-t10
+sub-t10 c = let s = c .before .before .before .before .before .before in rw (below-is (c .before)) (low-step s .0)
+
+cast-t11 : tie.Need-cast-t11
+cast-t11 c = let s = c .before .before .before .before .before .before in rw (above-is c) (reach-fits (reach-above-within (s .args .r) (s .pre)))
+
+add-t12 : tie.Need-add-t12
+add-t12 c = let s = c .before .before .before .before .before .before in rw (above-is c) (high-step s .0)
+
+returns : tie.Need-returns
+returns c = let s = c .before .before .before .before .before .before in (rw (below-is (c .before)) (low-step s .1), rw (above-is c) (high-step s .1))
+
+pub range-of-spec : {M : Type 1} → statement M
+range-of-spec =
+    tie.close
+    (tie.spec
+    linear-absolutes-requires
+    pairs-below-requires
+    add-below
+    pairs-above-requires
+    add-above
+    cast-t9
+    sub-t10
+    cast-t11
+    add-t12
+    returns)

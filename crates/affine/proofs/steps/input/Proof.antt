@@ -1,0 +1,86 @@
+-- `steps::input` meets its contract: what `check` answers of the input's row.
+use mathlib.Core.Path.{_≡_, _∙_, ap, ap₂}
+use Prim.Native.Nat.{ℕ}
+use native.Mathlib.Omega.{arith}
+use lib.IntN.{pos, natAbs, _+ℤ_, _-ℤ_}
+use mir.Syntax.{w64}
+use mir.Val.{SFits, toZ, ofZ}
+use Rattle.integer.specs.Floor.{floorQuotient}
+use Rattle.integer.proofs.Machine.{back-as, operation-fits, operation-gives}
+use Rattle.affine.specs.Steps.{constantRow, withOwn, inputCentre, checked}
+use Rattle.affine.proofs.InputRow.{sum-fits, centre-fits, own-fits}
+use borrow.Author.Needs.{needs}
+use Rattle.affine.proofs.steps.input.Statement.{statement}
+use Rattle.affine.proofs.steps.input.Tie as tie
+
+-- the bounds of the ends
+sum-ok : (c : tie.Start) → SFits w64 (c .args .low +ℤ c .args .high)
+sum-ok c = sum-fits (c .args .low) (c .args .high) (c .pre .1) (c .pre .2)
+
+centre-ok : (c : tie.Start) → SFits w64 (inputCentre (c .args .low) (c .args .high))
+centre-ok c = centre-fits (c .args .low) (c .args .high) (c .pre .1) (c .pre .2)
+
+own-ok : (c : tie.Start) → SFits w64 (c .args .high -ℤ inputCentre (c .args .low) (c .args .high))
+own-ok c = own-fits (c .args .low) (c .args .high) (c .pre .1) (c .pre .2)
+
+sum-is : (c : tie.Start)
+    → toZ w64 (ofZ w64 (toZ w64 (ofZ w64 (c .args .low)) +ℤ toZ w64 (ofZ w64 (c .args .high)))) ≡ c .args .low +ℤ c .args .high
+sum-is c = operation-gives _+ℤ_ (c .fits .low) (c .fits .high) (sum-ok c)
+
+-- the numbers of the row
+centre-is : (c : tie.After-floor-quotient) → c .floor-quotient .result ≡ inputCentre (c .before .args .low) (c .before .args .high)
+centre-is c = c .floor-quotient .ensures ∙ ap (λ z. floorQuotient z (pos 2)) (sum-is (c .before))
+
+row-is : (c : tie.After-constant-row)
+    → c .constant-row .result ≡ constantRow (inputCentre (c .before .before .args .low) (c .before .before .args .high))
+row-is c = c .constant-row .ensures ∙ ap constantRow (back-as (centre-is (c .before)) (centre-ok (c .before .before)))
+
+own-is : (c : tie.After-constant-row)
+    → let s = c .before .before in
+    toZ w64 (ofZ w64 (toZ w64 (ofZ w64 (s .args .high)) -ℤ toZ w64 (ofZ w64 (c .before .floor-quotient .result))))
+    ≡ s .args .high -ℤ inputCentre (s .args .low) (s .args .high)
+own-is c =
+    let s = c .before .before in
+    rw (centre-is (c .before)) (operation-gives _-ℤ_ (s .fits .high) (centre-ok s) (own-ok s))
+
+add-floor-quotient : tie.Need-add-floor-quotient
+add-floor-quotient c = operation-fits _+ℤ_ (c .fits .low) (c .fits .high) (sum-ok c)
+
+floor-quotient-requires : tie.Need-floor-quotient-requires
+floor-quotient-requires c κs = ((λ e. let z : _≡_ {A = ℕ} 2 0 = ap natAbs e in omega arith), rw (sum-is c) (centre-ok c))
+
+constant-row-requires : tie.Need-constant-row-requires
+constant-row-requires c κs = search needs
+
+sub-row : tie.Need-sub-row
+sub-row c =
+    let s = c .before .before in
+    rw (centre-is (c .before)) (operation-fits _-ℤ_ (s .fits .high) (centre-ok s) (own-ok s))
+
+mul-t8 : tie.Need-mul-t8
+mul-t8 c = search needs
+
+element-set-from-row : tie.Need-element-set-from-row
+element-set-from-row c = search needs
+
+check-requires : tie.Need-check-requires
+check-requires c κs = search needs
+
+returns : tie.Need-returns
+returns c =
+    let b = c .before in
+    let s = b .before .before in
+    c .check .ensures ∙ ap₂ (λ r v. checked (withOwn (s .args .own) v r)) (row-is b) (own-is b)
+
+pub input-spec : {M : Type 1} → statement M
+input-spec =
+    tie.close
+    (tie.spec
+    add-floor-quotient
+    floor-quotient-requires
+    constant-row-requires
+    sub-row
+    mul-t8
+    element-set-from-row
+    check-requires
+    returns)

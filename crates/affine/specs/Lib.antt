@@ -1,0 +1,9 @@
+pub mod Limits
+pub mod Lists
+pub mod PairOrder
+pub mod Row
+pub mod Steps
+pub mod Product
+pub mod Reciprocal
+pub mod Capped
+pub mod Form

@@ -1,0 +1,75 @@
+-- Document 01, "What each row becomes": multiply.
+use mathlib.Core.List.{List, [], _∷_, map}
+use Prim.Native.Nat.{ℕ, _+_, _*_, _-_}
+use lib.Dec.{eqb}
+use lib.IntN.{ℤ, pos, _+ℤ_, _*ℤ_}
+use lib.ListN.{take}
+use Rattle.integer.specs.Floor.{floorQuotient, floorRemainder, ceilingQuotient}
+use Rattle.integer.specs.Sum.{sumAbs}
+use Rattle.affine.specs.declared.Row.{Row}
+use Rattle.affine.specs.declared.Answer.{Answer}
+use Rattle.affine.specs.Limits.{symbols, pairs, unit}
+use Rattle.affine.specs.Lists.{pick, at, tabulate}
+use Rattle.affine.specs.PairOrder.{firstOf, secondOf, inUse}
+use Rattle.affine.specs.Row.{numbers, span}
+use Rattle.affine.specs.Steps.{withOwn, mapRow, checked}
+
+-- "the linear products that meet in that pair (one for (i,i), two otherwise)"
+abbrev pub meeting : List ℤ → List ℤ → ℕ → ℕ → ℤ
+meeting a b i j = pick (eqb i j) (at a i *ℤ at b j) (at a i *ℤ at b j +ℤ at a j *ℤ at b i)
+
+-- c times the second's number plus d times the first's
+abbrev pub crosswise : ℤ → ℤ → ℤ → ℤ → ℤ
+crosswise c b d a = c *ℤ b +ℤ d *ℤ a
+
+-- "With c and d the centres, form these totals: centre cd; for symbol i, c times the second's coefficient plus d times the first's;
+unfoldable pub linearTotals : Row → Row → List ℤ
+linearTotals x y =
+    tabulate symbols (λ i. crosswise (x .centre) (at (y .linear) i) (y .centre) (at (x .linear) i))
+
+-- for each pair in use, c and d times the pair coefficients crosswise, plus the linear products that meet in that pair"
+unfoldable pub pairTotals : ℕ → Row → Row → List ℤ
+pairTotals squares x y =
+    tabulate pairs
+    (λ k. pick (inUse squares k)
+    (crosswise (x .centre) (at (y .pair) k) (y .centre) (at (x .pair) k) +ℤ meeting (x .linear) (y .linear) (firstOf k) (secondOf k))
+    (pos 0))
+
+abbrev pub totals : ℕ → Row → Row → Row
+totals squares x y =
+    record { centre = x .centre *ℤ y .centre; linear = linearTotals x y; pair = pairTotals squares x y }
+
+-- "all linear and pair absolutes" of a row (the field's term: its radius)
+unfoldable pub radius : Row → ℕ
+radius r = sumAbs (r .linear) + sumAbs (r .pair)
+
+-- "linear absolutes of the first "squares" symbols"
+unfoldable pub squaredRadius : ℕ → Row → ℕ
+squaredRadius squares r = sumAbs (take squares (r .linear))
+
+-- "Dropped part: (all linear and pair absolutes of the first) × (the same of the second), less (linear absolutes of the first "squares"
+-- symbols of the first) × (the same of the second)."
+unfoldable pub dropped : ℕ → Row → Row → ℕ
+dropped squares x y = radius x * radius y - squaredRadius squares x * squaredRadius squares y
+
+-- The rounding rule of a division by the unit: a quotient, and what is left.
+pub record Rounding : Type 0 where
+  pub quotient : ℤ → ℤ
+  pub remainder : ℤ → ℤ
+
+-- "Each total is divided by 4096 and its remainder, 0 to 4095, is kept." "Division here rounds down, toward minus infinity"
+abbrev pub productRounding : Rounding
+productRounding =
+    record { quotient = λ t. floorQuotient t (pos unit); remainder = λ t. floorRemainder t (pos unit) }
+
+-- "Own coefficient: (dropped part + all remainders) / 4096, up."
+unfoldable pub productOwn : ℕ → Row → Row → ℕ
+productOwn squares x y =
+    ceilingQuotient (dropped squares x y + span (mapRow (productRounding .remainder) (totals squares x y))) unit
+
+unfoldable pub productRow : ℕ → ℕ → Row → Row → Row
+productRow squares own x y =
+    withOwn own (pos (productOwn squares x y)) (mapRow (productRounding .quotient) (totals squares x y))
+
+abbrev pub product : ℕ → ℕ → Row → Row → Answer
+product squares own x y = checked (productRow squares own x y)

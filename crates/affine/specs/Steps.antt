@@ -1,0 +1,65 @@
+-- Document 01, "What each row becomes": inputs, constants, sums and differences, and the answer of an operation.
+use mathlib.Core.List.{List, [], _∷_, map}
+use Prim.Native.Nat.{ℕ}
+use lib.IntN.{ℤ, pos, _+ℤ_, _-ℤ_}
+use lib.ListN.{set, replicate}
+use Rattle.integer.specs.Floor.{floorQuotient}
+use Rattle.affine.specs.declared.Row.{Row}
+use Rattle.affine.specs.declared.Status.{Status}
+use Rattle.affine.specs.declared.Status.the-variants.{Accepted, SpanPassed, ZeroInRange}
+use Rattle.affine.specs.declared.Answer.{Answer}
+use Rattle.affine.specs.Limits.{symbols, pairs}
+use Rattle.affine.specs.Lists.{pick, at, tabulate}
+use Rattle.affine.specs.Row.{withinSpan}
+
+-- a row with one centre and no coefficient: "Constant: centre alone."
+abbrev pub constantRow : ℤ → Row
+constantRow v = record { centre = v; linear = replicate symbols (pos 0); pair = replicate pairs (pos 0) }
+
+-- "Row r owns symbol r; its coefficient in row r is its own coefficient." Symbols are counted from 0.
+abbrev pub withOwn : ℕ → ℤ → Row → Row
+withOwn own v r = record { centre = r .centre; linear = set (r .linear) own v; pair = r .pair }
+
+-- "Input: centre is (low + high) / 2. Own coefficient is high less centre."
+abbrev pub inputCentre : ℤ → ℤ → ℤ
+inputCentre low high = floorQuotient (low +ℤ high) (pos 2)
+
+abbrev pub inputRow : ℕ → ℤ → ℤ → Row
+inputRow own low high = withOwn own (high -ℤ inputCentre low high) (constantRow (inputCentre low high))
+
+-- one row made of two, number by number
+abbrev pub zipRows : (ℤ → ℤ → ℤ) → Row → Row → Row
+zipRows f x y =
+    record {
+      centre = f (x .centre) (y .centre);
+      linear = tabulate symbols (λ i. f (at (x .linear) i) (at (y .linear) i));
+      pair = tabulate pairs (λ k. f (at (x .pair) k) (at (y .pair) k));
+    }
+
+-- "Add, subtract: number by number, own coefficient 0." No operand has a coefficient at the own symbol of a later row.
+abbrev pub addRows : Row → Row → Row
+addRows = zipRows (λ a b. a +ℤ b)
+
+abbrev pub subtractRows : Row → Row → Row
+subtractRows = zipRows (λ a b. a -ℤ b)
+
+-- one row made of another, number by number
+abbrev pub mapRow : (ℤ → ℤ) → Row → Row
+mapRow f r = record { centre = f (r .centre); linear = map f (r .linear); pair = map f (r .pair) }
+
+-- "Causes and what follows": the number of an answer
+abbrev pub number : Status → ℕ
+number Accepted = 0
+number SpanPassed = 6
+number ZeroInRange = 7
+
+abbrev pub accepted : Row → Answer
+accepted r = record { status = Accepted; row = r }
+
+-- "Beside a refusal every other answer is 0"
+abbrev pub refused : Status → Answer
+refused s = record { status = s; row = constantRow (pos 0) }
+
+-- "span passed, by a new row"
+abbrev pub checked : Row → Answer
+checked r = pick (withinSpan r) (accepted r) (refused SpanPassed)

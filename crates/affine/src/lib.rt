@@ -1,0 +1,33 @@
+// Row arithmetic: affine forms with square terms, in whole numbers of 1/4096.
+// The six ways a row comes about are `input`, `constant`, `add`, `subtract`, `multiply` and `reciprocal`; `within_span`, `range_of` and
+// `same_row` tell of a row.
+pub mod limits;
+mod pair_order;
+pub mod product;
+pub mod range;
+pub mod reciprocal;
+pub mod steps;
+pub mod sums;
+
+use limits::PAIRS;
+use limits::SYMBOLS;
+
+// The numbers of a row: the centre, a coefficient for each noise symbol, and one for each pair of symbols.
+pub struct Row {
+    pub centre: i64,
+    pub linear: [i64; SYMBOLS],
+    pub pair: [i64; PAIRS],
+}
+
+// How an operation ended.
+pub enum Status {
+    Accepted,
+    SpanPassed,
+    ZeroInRange,
+}
+
+// The answer of an operation: the row where it was accepted, zeros beside a refusal.
+pub struct Answer {
+    pub status: Status,
+    pub row: Row,
+}

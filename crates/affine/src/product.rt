@@ -1,0 +1,171 @@
+// The product of two rows.
+use crate::Answer;
+use crate::Row;
+use crate::limits::PAIRS;
+use crate::limits::SYMBOLS;
+use crate::limits::UNIT;
+use crate::pair_order::first_of;
+use crate::pair_order::second_of;
+ghost use mathlib.Core.Path.{_≡_};
+ghost use mathlib.Core.List.{map};
+ghost use Prim.Native.Nat.{_+_, _*_, _≤_, _<_};
+ghost use lib.IntN.{natAbs, _+ℤ_, _*ℤ_};
+ghost use Rattle.integer.specs.Sum.{sumAbs};
+ghost use Rattle.affine.specs.Limits.{symbols, paired, spanLimit};
+ghost use Rattle.affine.specs.Lists.{pick};
+ghost use Rattle.affine.specs.Row.{span};
+ghost use Rattle.affine.specs.Product.{
+  crosswise,
+  linearTotals,
+  pairTotals,
+  radius,
+  squaredRadius,
+  dropped,
+  productRounding,
+  product,
+};
+
+// Quotients of totals, and the sum of the absolute remainders.
+pub struct LinearQuotients {
+    pub values: [i64; SYMBOLS],
+    pub remainders: u64,
+}
+
+pub struct PairQuotients {
+    pub values: [i64; PAIRS],
+    pub remainders: u64,
+}
+
+// The total of a symbol, from the centres c and d and the coefficients b of the second row and a of the first.
+pub fn linear_total(c: i64, b: i64, d: i64, a: i64) -> i64
+    requires { ⌜ (natAbs c ≤ spanLimit) × (natAbs b ≤ spanLimit) × (natAbs d ≤ spanLimit) × (natAbs a ≤ spanLimit) ⌝ }
+    ensures { λ r. ⌜ r ≡ crosswise c b d a ⌝ }
+{
+    c * b + d * a
+}
+
+// The products of linear coefficients that meet in a pair; square: in a pair (i,i).
+pub fn meeting_products(ai: i64, bj: i64, aj: i64, bi: i64, square: bool) -> i64
+    requires { ⌜ (natAbs ai ≤ spanLimit) × (natAbs bj ≤ spanLimit) × (natAbs aj ≤ spanLimit) × (natAbs bi ≤ spanLimit) ⌝ }
+    ensures { λ r. ⌜ r ≡ pick square (ai *ℤ bj) (ai *ℤ bj +ℤ aj *ℤ bi) ⌝ }
+{
+    if square { ai * bj } else { ai * bj + aj * bi }
+}
+
+// The total of a pair: crosswise as of a symbol, plus the products that meet in the pair.
+pub fn pair_total(
+    c: i64,
+    q: i64,
+    d: i64,
+    p: i64,
+    ai: i64,
+    bj: i64,
+    aj: i64,
+    bi: i64,
+    square: bool,
+) -> i64
+    requires { ⌜ (natAbs c ≤ spanLimit) × (natAbs q ≤ spanLimit) × (natAbs d ≤ spanLimit) × (natAbs p ≤ spanLimit) ⌝ }
+    requires { ⌜ (natAbs ai ≤ spanLimit) × (natAbs bj ≤ spanLimit) × (natAbs aj ≤ spanLimit) × (natAbs bi ≤ spanLimit) ⌝ }
+    ensures { λ r. ⌜ r ≡ crosswise c q d p +ℤ pick square (ai *ℤ bj) (ai *ℤ bj +ℤ aj *ℤ bi) ⌝ }
+{
+    linear_total(c, q, d, p) + meeting_products(ai, bj, aj, bi, square)
+}
+
+fn linear_quotients(x: Row, y: Row) -> LinearQuotients
+    requires { ⌜ (span x ≤ spanLimit) × (span y ≤ spanLimit) ⌝ }
+    ensures values { λ r. ⌜ r .values ≡ map (productRounding .quotient) (linearTotals x y) ⌝ }
+    ensures remainders { λ r. ⌜ r .remainders ≡ sumAbs (map (productRounding .remainder) (linearTotals x y)) ⌝ }
+{
+    let c = x.centre;
+    let d = y.centre;
+    let mut values = [0i64; SYMBOLS];
+    let mut remainders: u64 = 0;
+    let mut i: usize = 0;
+    while i < SYMBOLS {
+        let a = x.linear[i];
+        let b = y.linear[i];
+        let t = linear_total(c, b, d, a);
+        let q = integer::division::floor_quotient_4096(t);
+        let m = integer::division::floor_remainder_4096(t);
+        values[i] = q;
+        remainders += m;
+        i += 1;
+    }
+    LinearQuotients { values, remainders }
+}
+
+fn pair_quotients(x: Row, y: Row, squares: usize) -> PairQuotients
+    requires { ⌜ (span x ≤ spanLimit) × (span y ≤ spanLimit) ⌝ }
+    ensures values { λ r. ⌜ r .values ≡ map (productRounding .quotient) (pairTotals squares x y) ⌝ }
+    ensures remainders { λ r. ⌜ r .remainders ≡ sumAbs (map (productRounding .remainder) (pairTotals squares x y)) ⌝ }
+{
+    let c = x.centre;
+    let d = y.centre;
+    let mut values = [0i64; PAIRS];
+    let mut remainders: u64 = 0;
+    let mut k: usize = 0;
+    while k < PAIRS {
+        let i = first_of(k);
+        let j = second_of(k);
+        if j < squares {
+            let p = x.pair[k];
+            let q = y.pair[k];
+            let ai = x.linear[i];
+            let aj = x.linear[j];
+            let bi = y.linear[i];
+            let bj = y.linear[j];
+            let t = pair_total(c, q, d, p, ai, bj, aj, bi, i == j);
+            values[k] = integer::division::floor_quotient_4096(t);
+            remainders += integer::division::floor_remainder_4096(t);
+        }
+        k += 1;
+    }
+    PairQuotients { values, remainders }
+}
+
+fn row_radius(r: Row) -> u64
+    requires { ⌜ span r ≤ spanLimit ⌝ }
+    ensures { λ n. ⌜ n ≡ radius r ⌝ }
+{
+    let l = r.linear;
+    let p = r.pair;
+    crate::sums::linear_absolutes(l, SYMBOLS) + crate::sums::pair_absolutes(p)
+}
+
+fn row_squared_radius(r: Row, squares: usize) -> u64
+    requires { ⌜ (squares ≤ paired) × (span r ≤ spanLimit) ⌝ }
+    ensures { λ n. ⌜ n ≡ squaredRadius squares r ⌝ }
+{
+    let l = r.linear;
+    crate::sums::linear_absolutes(l, squares)
+}
+
+pub fn dropped_part(x: Row, y: Row, squares: usize) -> u64
+    requires { ⌜ (squares ≤ paired) × (span x ≤ spanLimit) × (span y ≤ spanLimit) ⌝ }
+    ensures { λ n. ⌜ n ≡ dropped squares x y ⌝ }
+{
+    let all = row_radius(x) * row_radius(y);
+    let kept = row_squared_radius(x, squares) * row_squared_radius(y, squares);
+    all - kept
+}
+
+// The product of two rows under a count of squares, in the row that owns the symbol at index own.
+pub fn multiply(x: Row, y: Row, squares: usize, own: usize) -> Answer
+    requires { ⌜ (squares ≤ paired) × (own < symbols) × (span x ≤ spanLimit) × (span y ≤ spanLimit) ⌝ }
+    ensures { λ r. ⌜ r ≡ product squares own x y ⌝ }
+{
+    let t = x.centre * y.centre;
+    let l = linear_quotients(x, y);
+    let p = pair_quotients(x, y, squares);
+    let remainders = integer::division::floor_remainder_4096(t) + l.remainders + p.remainders;
+    let error = dropped_part(x, y, squares) + remainders;
+    let mut linear = l.values;
+    linear[own] = integer::division::ceiling_quotient(error, UNIT) as i64;
+    let pair = p.values;
+    let row = Row {
+        centre: integer::division::floor_quotient_4096(t),
+        linear,
+        pair,
+    };
+    crate::steps::check(row)
+}

@@ -1,0 +1,188 @@
+// The reciprocal of a row.
+use crate::Answer;
+use crate::Row;
+use crate::Status;
+use crate::limits::PAIRS;
+use crate::limits::SYMBOLS;
+use crate::limits::UNIT_SQUARED;
+use crate::pair_order::first_of;
+use crate::pair_order::second_of;
+ghost use mathlib.Core.Path.{_≡_};
+ghost use Prim.Native.Nat.{_+_, _*_, _≤_, _<_};
+ghost use lib.IntN.{negℤ, natAbs, _+ℤ_};
+ghost use Rattle.integer.specs.Floor.{floorQuotient};
+ghost use Rattle.integer.specs.Sum.{sumAbs};
+ghost use Rattle.affine.specs.Limits.{symbols, paired, unitSquared, spanLimit};
+ghost use Rattle.affine.specs.Row.{span};
+ghost use Rattle.affine.specs.Product.{linearTotals, pairTotals};
+ghost use Rattle.affine.specs.Reciprocal.{
+  slope,
+  candidateLinear,
+  candidatePair,
+  candidate,
+  errorBound,
+  reciprocalApart,
+  reciprocal,
+};
+
+// A coefficient of the candidate: minus N times the operand's, divided by the square of the centre c.
+fn candidate_slope(c: i64, v: i64) -> i64
+    requires { ⌜ (natAbs c ≤ spanLimit) × (natAbs v ≤ spanLimit) × (0 < natAbs c) ⌝ }
+    ensures { λ r. ⌜ r ≡ slope c v ⌝ }
+{
+    integer::division::floor_quotient(-UNIT_SQUARED * v, c * c)
+}
+
+fn candidate_linear(x: Row) -> [i64; SYMBOLS]
+    requires { ⌜ (span x ≤ spanLimit) × (0 < natAbs (x .centre)) ⌝ }
+    ensures { λ r. ⌜ r ≡ candidateLinear x ⌝ }
+{
+    let c = x.centre;
+    let mut out = [0i64; SYMBOLS];
+    let mut i: usize = 0;
+    while i < SYMBOLS {
+        let v = x.linear[i];
+        out[i] = candidate_slope(c, v);
+        i += 1;
+    }
+    out
+}
+
+// A pair coefficient of the candidate: the slope's part, and the products of the candidate's and the operand's coefficients that meet in
+// the pair, with the sign turned and divided by the centre c.
+fn candidate_curve(c: i64, p: i64, met: i64) -> i64
+    requires { ⌜ (natAbs c ≤ spanLimit) × (natAbs p ≤ spanLimit) × (0 < natAbs c) × (natAbs met ≤ 2 * (unitSquared * spanLimit)) ⌝ }
+    ensures { λ r. ⌜ r ≡ slope c p +ℤ floorQuotient (negℤ met) c ⌝ }
+{
+    candidate_slope(c, p) + integer::division::floor_quotient(-met, c)
+}
+
+fn candidate_pair(x: Row, z: [i64; SYMBOLS], squares: usize) -> [i64; PAIRS]
+    requires { ⌜ (span x ≤ spanLimit) × (0 < natAbs (x .centre)) × (sumAbs (x .linear) ≤ natAbs (x .centre)) × (z ≡ candidateLinear x) ⌝ }
+    ensures { λ r. ⌜ r ≡ candidatePair squares x ⌝ }
+{
+    let c = x.centre;
+    let mut out = [0i64; PAIRS];
+    let mut k: usize = 0;
+    while k < PAIRS {
+        let i = first_of(k);
+        let j = second_of(k);
+        if j < squares {
+            let p = x.pair[k];
+            let ai = x.linear[i];
+            let aj = x.linear[j];
+            let zi = z[i];
+            let zj = z[j];
+            let met = crate::product::meeting_products(zi, aj, zj, ai, i == j);
+            out[k] = candidate_curve(c, p, met);
+        }
+        k += 1;
+    }
+    out
+}
+
+// The candidate for the reciprocal of a row whose centre is not 0 and outweighs the linear coefficients.
+fn candidate_row(x: Row, squares: usize) -> Row
+    requires { ⌜ (span x ≤ spanLimit) × (0 < natAbs (x .centre)) × (sumAbs (x .linear) ≤ natAbs (x .centre)) ⌝ }
+    ensures { λ r. ⌜ r ≡ candidate squares x ⌝ }
+{
+    let c = x.centre;
+    let centre = integer::division::floor_quotient(UNIT_SQUARED, c);
+    let linear = candidate_linear(x);
+    let pair = candidate_pair(x, linear, squares);
+    Row {
+        centre,
+        linear,
+        pair,
+    }
+}
+
+fn linear_total_absolutes(x: Row, z: Row) -> u64
+    requires { ⌜ (span x ≤ spanLimit) × (span z ≤ spanLimit) ⌝ }
+    ensures { λ r. ⌜ r ≡ sumAbs (linearTotals x z) ⌝ }
+{
+    let c = x.centre;
+    let d = z.centre;
+    let mut sum: u64 = 0;
+    let mut i: usize = 0;
+    while i < SYMBOLS {
+        let a = x.linear[i];
+        let b = z.linear[i];
+        let t = crate::product::linear_total(c, b, d, a);
+        sum += integer::magnitude::absolute(t);
+        i += 1;
+    }
+    sum
+}
+
+fn pair_total_absolutes(x: Row, z: Row, squares: usize) -> u64
+    requires { ⌜ (squares ≤ paired) × (span x ≤ spanLimit) × (span z ≤ spanLimit) ⌝ }
+    ensures { λ r. ⌜ r ≡ sumAbs (pairTotals squares x z) ⌝ }
+{
+    let c = x.centre;
+    let d = z.centre;
+    let mut sum: u64 = 0;
+    let mut k: usize = 0;
+    while k < PAIRS {
+        let i = first_of(k);
+        let j = second_of(k);
+        if j < squares {
+            let p = x.pair[k];
+            let q = z.pair[k];
+            let ai = x.linear[i];
+            let aj = x.linear[j];
+            let bi = z.linear[i];
+            let bj = z.linear[j];
+            let t = crate::product::pair_total(c, q, d, p, ai, bj, aj, bi, i == j);
+            sum += integer::magnitude::absolute(t);
+        }
+        k += 1;
+    }
+    sum
+}
+
+// A bound of operand times candidate less 1, in units of 1 over N.
+fn error_bound(x: Row, z: Row, squares: usize) -> u64
+    requires { ⌜ (squares ≤ paired) × (span x ≤ spanLimit) × (span z ≤ spanLimit) ⌝ }
+    ensures { λ r. ⌜ r ≡ errorBound squares x z ⌝ }
+{
+    let t = x.centre * z.centre - UNIT_SQUARED;
+    let centre = integer::magnitude::absolute(t);
+    let linear = linear_total_absolutes(x, z);
+    let pair = pair_total_absolutes(x, z, squares);
+    let dropped = crate::product::dropped_part(x, z, squares);
+    centre + linear + pair + dropped
+}
+
+// The reciprocal of a row whose range lies at a distance from 0, in the row that owns the symbol at index own.
+fn reciprocal_apart(x: Row, distance: u64, squares: usize, own: usize) -> Answer
+    requires { ⌜ (squares ≤ paired) × (own < symbols) × (span x ≤ spanLimit) ⌝ }
+    requires { ⌜ (0 < distance) × (sumAbs (x .linear) + distance ≤ natAbs (x .centre)) ⌝ }
+    ensures { λ r. ⌜ r ≡ reciprocalApart squares own x distance ⌝ }
+{
+    let z = candidate_row(x, squares);
+    if !crate::sums::within_span(z) {
+        return crate::steps::refusal(Status::SpanPassed);
+    }
+    let bound = error_bound(x, z, squares);
+    let mut row = z;
+    row.linear[own] = integer::division::ceiling_quotient(bound, distance) as i64;
+    crate::steps::check(row)
+}
+
+// The reciprocal of a row, in the row that owns the symbol at index own.
+pub fn invert(x: Row, squares: usize, own: usize) -> Answer
+    requires { ⌜ (squares ≤ paired) × (own < symbols) × (span x ≤ spanLimit) ⌝ }
+    ensures { λ r. ⌜ r ≡ reciprocal squares own x ⌝ }
+{
+    let range = crate::range::range_of(x);
+    let low = range.low;
+    let high = range.high;
+    if low > 0 {
+        return reciprocal_apart(x, integer::magnitude::absolute(low), squares, own);
+    }
+    if high < 0 {
+        return reciprocal_apart(x, integer::magnitude::absolute(high), squares, own);
+    }
+    crate::steps::refusal(Status::ZeroInRange)
+}

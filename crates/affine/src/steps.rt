@@ -1,0 +1,161 @@
+// The rows of inputs, constants, sums and differences.
+use crate::Answer;
+use crate::Row;
+use crate::Status;
+use crate::limits::PAIRS;
+use crate::limits::SYMBOLS;
+ghost use mathlib.Core.Path.{_≡_};
+ghost use Prim.Native.Nat.{_≤_, _<_};
+ghost use lib.IntN.{natAbs, _+ℤ_, _-ℤ_};
+ghost use Rattle.integer.specs.Sum.{sumAbs};
+ghost use Rattle.affine.specs.Limits.{symbols, pairs, spanLimit};
+ghost use Rattle.affine.specs.Lists.{at, tabulate};
+ghost use Rattle.affine.specs.Row.{span};
+ghost use Rattle.affine.specs.Steps.{constantRow, inputRow, addRows, subtractRows, refused, checked};
+
+pub fn constant_row(v: i64) -> Row
+    ensures { λ r. ⌜ r ≡ constantRow v ⌝ }
+{
+    Row {
+        centre: v,
+        linear: [0i64; SYMBOLS],
+        pair: [0i64; PAIRS],
+    }
+}
+
+// The answer beside a refusal.
+pub fn refusal(status: Status) -> Answer
+    ensures { λ r. ⌜ r ≡ refused status ⌝ }
+{
+    let row = constant_row(0);
+    Answer { status, row }
+}
+
+// A row as the answer, or the refusal where its span is passed.
+pub fn check(row: Row) -> Answer
+    ensures { λ r. ⌜ r ≡ checked row ⌝ }
+{
+    if crate::sums::within_span(row) {
+        Answer {
+            status: Status::Accepted,
+            row,
+        }
+    } else {
+        refusal(Status::SpanPassed)
+    }
+}
+
+pub fn constant(v: i64) -> Answer
+    ensures { λ r. ⌜ r ≡ checked (constantRow v) ⌝ }
+{
+    let row = constant_row(v);
+    check(row)
+}
+
+// The row of an input that owns the symbol at index own.
+pub fn input(own: usize, low: i64, high: i64) -> Answer
+    requires { ⌜ (own < symbols) × (natAbs low ≤ spanLimit) × (natAbs high ≤ spanLimit) ⌝ }
+    ensures { λ r. ⌜ r ≡ checked (inputRow own low high) ⌝ }
+{
+    let centre = integer::division::floor_quotient(low + high, 2);
+    let mut row = constant_row(centre);
+    row.linear[own] = high - centre;
+    check(row)
+}
+
+fn linear_sum(a: [i64; SYMBOLS], b: [i64; SYMBOLS]) -> [i64; SYMBOLS]
+    requires { ⌜ (sumAbs a ≤ spanLimit) × (sumAbs b ≤ spanLimit) ⌝ }
+    ensures { λ r. ⌜ r ≡ tabulate symbols (λ i. at a i +ℤ at b i) ⌝ }
+{
+    let mut out = [0i64; SYMBOLS];
+    let mut i: usize = 0;
+    while i < SYMBOLS {
+        let v = a[i];
+        let w = b[i];
+        out[i] = v + w;
+        i += 1;
+    }
+    out
+}
+
+fn pair_sum(p: [i64; PAIRS], q: [i64; PAIRS]) -> [i64; PAIRS]
+    requires { ⌜ (sumAbs p ≤ spanLimit) × (sumAbs q ≤ spanLimit) ⌝ }
+    ensures { λ r. ⌜ r ≡ tabulate pairs (λ k. at p k +ℤ at q k) ⌝ }
+{
+    let mut out = [0i64; PAIRS];
+    let mut k: usize = 0;
+    while k < PAIRS {
+        let v = p[k];
+        let w = q[k];
+        out[k] = v + w;
+        k += 1;
+    }
+    out
+}
+
+fn linear_difference(a: [i64; SYMBOLS], b: [i64; SYMBOLS]) -> [i64; SYMBOLS]
+    requires { ⌜ (sumAbs a ≤ spanLimit) × (sumAbs b ≤ spanLimit) ⌝ }
+    ensures { λ r. ⌜ r ≡ tabulate symbols (λ i. at a i -ℤ at b i) ⌝ }
+{
+    let mut out = [0i64; SYMBOLS];
+    let mut i: usize = 0;
+    while i < SYMBOLS {
+        let v = a[i];
+        let w = b[i];
+        out[i] = v - w;
+        i += 1;
+    }
+    out
+}
+
+fn pair_difference(p: [i64; PAIRS], q: [i64; PAIRS]) -> [i64; PAIRS]
+    requires { ⌜ (sumAbs p ≤ spanLimit) × (sumAbs q ≤ spanLimit) ⌝ }
+    ensures { λ r. ⌜ r ≡ tabulate pairs (λ k. at p k -ℤ at q k) ⌝ }
+{
+    let mut out = [0i64; PAIRS];
+    let mut k: usize = 0;
+    while k < PAIRS {
+        let v = p[k];
+        let w = q[k];
+        out[k] = v - w;
+        k += 1;
+    }
+    out
+}
+
+pub fn add(x: Row, y: Row) -> Answer
+    requires { ⌜ (span x ≤ spanLimit) × (span y ≤ spanLimit) ⌝ }
+    ensures { λ r. ⌜ r ≡ checked (addRows x y) ⌝ }
+{
+    let a = x.linear;
+    let b = y.linear;
+    let p = x.pair;
+    let q = y.pair;
+    let linear = linear_sum(a, b);
+    let pair = pair_sum(p, q);
+    let sum = Row {
+        centre: x.centre + y.centre,
+        linear,
+        pair,
+    };
+    check(sum)
+}
+
+// The second row taken from the first.
+pub fn subtract(x: Row, y: Row) -> Answer
+    requires { ⌜ (span x ≤ spanLimit) × (span y ≤ spanLimit) ⌝ }
+    ensures { λ r. ⌜ r ≡ checked (subtractRows x y) ⌝ }
+{
+    let a = x.linear;
+    let b = y.linear;
+    let p = x.pair;
+    let q = y.pair;
+    let linear = linear_difference(a, b);
+    let pair = pair_difference(p, q);
+    let difference = Row {
+        centre: x.centre - y.centre,
+        linear,
+        pair,
+    };
+    check(difference)
+}
