@@ -1,0 +1,9 @@
+pub mod Limits
+pub mod Causes
+pub mod Number
+pub mod Text
+pub mod Lines
+pub mod Reading
+pub mod Wrote
+pub mod Writing
+pub mod Same

@@ -1,0 +1,182 @@
+-- The lines of a schedule's sheet, one after another: what each holds, its text, and the test of its numbers (document 01, "The sheet").
+use mathlib.Core.Bool.{Bool, true, false}
+use mathlib.Core.List.{List, [], _∷_, _++_}
+use Prim.Native.Nat.{ℕ, zero, suc, _+_, _-_}
+use lib.Dec.{leb, ltb, eqb}
+use lib.Signed.{leZ}
+use lib.ListN.{getD, set, replicate, length}
+use lib.IntN.{ℤ, pos, negsuc, negℤ}
+use Rattle.sheet.specs.Number.{pick}
+use Rattle.sheet.specs.Text.{line}
+use Rattle.sheet.specs.Limits.{maxInputs, maxSteps, endLimit, lastBinary, lastCode}
+use Rattle.sheet.specs.Causes.{countWrong, endWrong, stepWrong}
+use Rattle.sheet.specs.declared.End.{End}
+use Rattle.sheet.specs.declared.Step.{Step}
+use Rattle.sheet.specs.declared.Schedule.{Schedule}
+use Rattle.sheet.specs.declared.Line.{Line}
+use Rattle.sheet.specs.declared.Line.the-variants.{CountNames, CountLine, EndNames, EndLine, StepNames, StepLine}
+
+abbrev pub zeroEnd : End
+zeroEnd = record { low = pos 0; high = pos 0 }
+
+abbrev pub zeroStep : Step
+zeroStep = record { code = pos 0; first = pos 0; second = pos 0; value = pos 0 }
+
+-- "a schedule of zeros"
+unfoldable pub zeroSchedule : Schedule
+zeroSchedule = record
+    { inputs = pos 0
+    ; squares = pos 0
+    ; steps = pos 0
+    ; ends = replicate maxInputs zeroEnd
+    ; step = replicate maxSteps zeroStep
+    }
+
+-- A count as a natural number; one below 0 counts as 0.
+abbrev pub natural : ℤ → ℕ
+natural (pos n) = n
+natural (negsuc n) = 0
+
+-- "Three blocks, each a line of names and then lines of values in that order": what text line `n` (from 1) of a sheet with so many inputs is.
+-- A line of a step carries the step's index and how many rows are earlier, the inputs and the steps before it.
+unfoldable pub lineOf : ℕ → ℕ → Line
+lineOf inputs n =
+    pick (leb n 1) CountNames
+    (pick (eqb n 2) CountLine
+    (pick (eqb n 3) EndNames
+    (pick (ltb (n - 4) inputs) (EndLine (n - 4))
+    (pick (eqb (n - 4) inputs) StepNames (StepLine (n - 5 - inputs) (n - 5))))))
+
+abbrev pub lineAt : Schedule → ℕ → Line
+lineAt c n = lineOf (natural (c .inputs)) n
+
+-- How many text lines follow the first two.
+abbrev pub linesLeft : Schedule → ℕ
+linesLeft c = natural (c .inputs) + natural (c .steps) + 2
+
+-- The names of a line of names, with byte 10: `inputs squares steps`, `low high`, `step first second value`.
+abbrev pub names : Line → List ℕ
+names CountNames = 105 ∷ 110 ∷ 112 ∷ 117 ∷ 116 ∷ 115 ∷ 32 ∷ 115 ∷ 113 ∷ 117 ∷ 97 ∷ 114 ∷ 101 ∷ 115 ∷ 32 ∷ 115 ∷ 116 ∷ 101 ∷ 112 ∷ 115 ∷ 10 ∷ []
+names EndNames = 108 ∷ 111 ∷ 119 ∷ 32 ∷ 104 ∷ 105 ∷ 103 ∷ 104 ∷ 10 ∷ []
+names StepNames = 115 ∷ 116 ∷ 101 ∷ 112 ∷ 32 ∷ 102 ∷ 105 ∷ 114 ∷ 115 ∷ 116 ∷ 32 ∷ 115 ∷ 101 ∷ 99 ∷ 111 ∷ 110 ∷ 100 ∷ 32 ∷ 118 ∷ 97 ∷ 108 ∷ 117 ∷ 101 ∷ 10 ∷ []
+names CountLine = []
+names (EndLine i) = []
+names (StepLine i r) = []
+
+-- How many numbers a line holds.
+abbrev pub width : Line → ℕ
+width CountNames = 0
+width CountLine = 3
+width EndNames = 0
+width (EndLine i) = 2
+width StepNames = 0
+width (StepLine i r) = 4
+
+-- The ends of input `i`, counted from 0, and step `i`; zeros where there is none.
+abbrev pub endsAt : Schedule → ℕ → End
+endsAt c i = getD (c .ends) i zeroEnd
+
+abbrev pub stepAt : Schedule → ℕ → Step
+stepAt c i = getD (c .step) i zeroStep
+
+abbrev pub endNumbers : End → List ℤ
+endNumbers e = e .low ∷ e .high ∷ []
+
+abbrev pub stepNumbers : Step → List ℤ
+stepNumbers t = t .code ∷ t .first ∷ t .second ∷ t .value ∷ []
+
+-- The numbers that a line of a schedule's sheet holds, in the order of the names above it.
+unfoldable pub numbers : Schedule → Line → List ℤ
+numbers c CountNames = []
+numbers c CountLine = c .inputs ∷ c .squares ∷ c .steps ∷ []
+numbers c EndNames = []
+numbers c (EndLine i) = endNumbers (endsAt c i)
+numbers c StepNames = []
+numbers c (StepLine i r) = stepNumbers (stepAt c i)
+
+-- The text of a line: its names, or its numbers.
+unfoldable pub lineText : Line → List ℤ → List ℕ
+lineText l xs = pick (eqb (width l) 0) (names l) (line xs)
+
+-- Number `i` of a line.
+abbrev pub item : List ℤ → ℕ → ℤ
+item v i = getD v i (pos 0)
+
+abbrev pub endsOf : List ℤ → End
+endsOf v = record { low = item v 0; high = item v 1 }
+
+abbrev pub stepOf : List ℤ → Step
+stepOf v = record { code = item v 0; first = item v 1; second = item v 2; value = item v 3 }
+
+abbrev pub withCounts : Schedule → List ℤ → Schedule
+withCounts c v = record { inputs = item v 0; squares = item v 1; steps = item v 2; ends = c .ends; step = c .step }
+
+abbrev pub withEnds : Schedule → ℕ → End → Schedule
+withEnds c i e = record { inputs = c .inputs; squares = c .squares; steps = c .steps; ends = set (c .ends) i e; step = c .step }
+
+abbrev pub withStep : Schedule → ℕ → Step → Schedule
+withStep c i t = record { inputs = c .inputs; squares = c .squares; steps = c .steps; ends = c .ends; step = set (c .step) i t }
+
+-- The schedule with the numbers of a line put in their place.
+unfoldable pub store : Schedule → Line → List ℤ → Schedule
+store c CountNames v = c
+store c CountLine v = withCounts c v
+store c EndNames v = c
+store c (EndLine i) v = withEnds c i (endsOf v)
+store c StepNames v = c
+store c (StepLine i r) v = withStep c i (stepOf v)
+
+-- `z` lies from `a` to `b`.
+abbrev pub between : ℤ → ℤ → ℤ → Bool
+between a z b = pick (leZ a z) (leZ z b) false
+
+abbrev pub isZero : ℤ → Bool
+isZero z = between (pos 0) z (pos 0)
+
+-- "from -268,435,456 to 268,435,456"
+abbrev pub withinLimit : ℤ → Bool
+withinLimit z = between (negℤ (pos endLimit)) z (pos endLimit)
+
+-- "inputs 1 to 6, squares 0 to inputs, steps 1 to 24"
+unfoldable pub countsPass : ℤ → ℤ → ℤ → Bool
+countsPass inputs squares steps =
+    pick (between (pos 1) inputs (pos maxInputs))
+    (pick (between (pos 0) squares inputs) (between (pos 1) steps (pos maxSteps)) false)
+    false
+
+-- "Both ends lie from -268,435,456 to 268,435,456, and low is at most high."
+unfoldable pub endsPass : ℤ → ℤ → Bool
+endsPass low high = pick (withinLimit low) (pick (withinLimit high) (leZ low high) false) false
+
+-- "A step's first and second name earlier rows": one of the rows 1 to `earlier`.
+abbrev pub namesRow : ℕ → ℤ → Bool
+namesRow earlier z = pick (leZ (pos 1) z) (leb (natural z) earlier) false
+
+-- A field that its code uses names an earlier row; "a field that its code does not use is 0".
+abbrev pub rowPasses : Bool → ℕ → ℤ → Bool
+rowPasses used earlier z = pick used (namesRow earlier z) (isZero z)
+
+-- The value of a constant is within the limits; "a field that its code does not use is 0".
+abbrev pub valuePasses : Bool → ℤ → Bool
+valuePasses used z = pick used (withinLimit z) (isZero z)
+
+-- "Codes: 1 constant (value, within the same limits as an end), 2 add, 3 subtract second from first, 4 multiply, 5 reciprocal of first."
+-- first is used by 2 to 5, second by 2 to 4, value by 1.
+unfoldable pub stepPasses : ℕ → ℤ → ℤ → ℤ → ℤ → Bool
+stepPasses earlier code first second value =
+    pick (between (pos 1) code (pos lastCode))
+    (pick (rowPasses (leZ (pos 2) code) earlier first)
+      (pick (rowPasses (between (pos 2) code (pos lastBinary)) earlier second)
+        (valuePasses (leZ code (pos 1)) value)
+        false)
+      false)
+    false
+
+-- The cause, 3, 4 or 5, for which the numbers of a line are refused, or 0.
+unfoldable pub fault : Line → List ℤ → ℕ
+fault CountNames v = 0
+fault CountLine v = pick (countsPass (item v 0) (item v 1) (item v 2)) 0 countWrong
+fault EndNames v = 0
+fault (EndLine i) v = pick (endsPass (item v 0) (item v 1)) 0 endWrong
+fault StepNames v = 0
+fault (StepLine i r) v = pick (stepPasses r (item v 0) (item v 1) (item v 2) (item v 3)) 0 stepWrong

@@ -1,0 +1,262 @@
+// What each line of a sheet holds, and the tests 3, 4 and 5 of its numbers.
+use crate::{End, Line, Schedule, Step};
+use crate::{END_LIMIT, LAST_BINARY, LAST_CODE, MAX_INPUTS, MAX_STEPS};
+ghost use mathlib.Core.Path.{_≡_};
+ghost use Prim.Native.Nat.{ℕ, _+_, _-_, _≤_, _<_, _^_};
+ghost use lib.IntN.{ℤ, pos};
+ghost use Rattle.sheet.specs.Lines as Spec;
+ghost use Rattle.sheet.specs.Reading.{padded};
+
+// A count as a natural number; one below 0 counts as 0.
+pub fn natural(z: i64) -> usize
+    ensures { λ r. ⌜ r ≡ Spec.natural z ⌝ }
+{
+    if z < 0 {
+        0
+    } else {
+        z as usize
+    }
+}
+
+// What text line n, from 1, of a sheet with so many inputs is.
+pub fn line_of(inputs: usize, n: usize) -> Line
+    ensures { λ r. ⌜ r ≡ Spec.lineOf inputs n ⌝ }
+{
+    if n <= 1 {
+        return Line::CountNames;
+    }
+    if n == 2 {
+        return Line::CountLine;
+    }
+    if n == 3 {
+        return Line::EndNames;
+    }
+    if n - 4 < inputs {
+        return Line::EndLine(n - 4);
+    }
+    if n - 4 == inputs {
+        return Line::StepNames;
+    }
+    Line::StepLine(n - 5 - inputs, n - 5)
+}
+
+// How many text lines follow the first two.
+pub fn lines_left(c: Schedule) -> usize
+    requires { ⌜ Spec.linesLeft c < 2 ^ 63 ⌝ }
+    ensures { λ r. ⌜ r ≡ Spec.linesLeft c ⌝ }
+{
+    natural(c.inputs) + natural(c.steps) + 2
+}
+
+// How many numbers a line holds.
+pub fn width(l: Line) -> usize
+    ensures { λ r. ⌜ r ≡ Spec.width l ⌝ }
+{
+    match l {
+        Line::CountNames => 0,
+        Line::CountLine => 3,
+        Line::EndNames => 0,
+        Line::EndLine(_) => 2,
+        Line::StepNames => 0,
+        Line::StepLine(_, _) => 4,
+    }
+}
+
+// The ends of input i, zeros beyond the room for inputs.
+fn ends_at(c: Schedule, i: usize) -> End
+    ensures { λ r. ⌜ r ≡ Spec.endsAt c i ⌝ }
+{
+    if i < MAX_INPUTS {
+        c.ends[i]
+    } else {
+        End { low: 0, high: 0 }
+    }
+}
+
+// Step i, zeros beyond the room for steps.
+fn step_at(c: Schedule, i: usize) -> Step
+    ensures { λ r. ⌜ r ≡ Spec.stepAt c i ⌝ }
+{
+    if i < MAX_STEPS {
+        c.step[i]
+    } else {
+        Step { code: 0, first: 0, second: 0, value: 0 }
+    }
+}
+
+// The numbers that a line of the schedule's sheet holds, and zeros behind them.
+pub fn numbers(c: Schedule, l: Line) -> [i64; 4]
+    ensures { λ r. ⌜ r ≡ padded (Spec.numbers c l) ⌝ }
+{
+    match l {
+        Line::CountNames => [0, 0, 0, 0],
+        Line::CountLine => [c.inputs, c.squares, c.steps, 0],
+        Line::EndNames => [0, 0, 0, 0],
+        Line::EndLine(i) => {
+            let e = ends_at(c, i);
+            [e.low, e.high, 0, 0]
+        }
+        Line::StepNames => [0, 0, 0, 0],
+        Line::StepLine(i, _) => {
+            let t = step_at(c, i);
+            [t.code, t.first, t.second, t.value]
+        }
+    }
+}
+
+// The schedule with an input's ends put in their place.
+fn with_ends(mut c: Schedule, i: usize, e: End) -> Schedule
+    ensures { λ r. ⌜ r ≡ Spec.withEnds c i e ⌝ }
+{
+    if i < MAX_INPUTS {
+        c.ends[i] = e;
+    }
+    c
+}
+
+// The schedule with a step put in its place.
+fn with_step(mut c: Schedule, i: usize, t: Step) -> Schedule
+    ensures { λ r. ⌜ r ≡ Spec.withStep c i t ⌝ }
+{
+    if i < MAX_STEPS {
+        c.step[i] = t;
+    }
+    c
+}
+
+// The schedule with other counts.
+fn with_counts(c: Schedule, v: [i64; 4]) -> Schedule
+    ensures { λ r. ⌜ r ≡ Spec.withCounts c v ⌝ }
+{
+    let ends = c.ends;
+    let step = c.step;
+    Schedule { inputs: v[0], squares: v[1], steps: v[2], ends, step }
+}
+
+fn ends_of(v: [i64; 4]) -> End
+    ensures { λ r. ⌜ r ≡ Spec.endsOf v ⌝ }
+{
+    End { low: v[0], high: v[1] }
+}
+
+fn step_of(v: [i64; 4]) -> Step
+    ensures { λ r. ⌜ r ≡ Spec.stepOf v ⌝ }
+{
+    Step { code: v[0], first: v[1], second: v[2], value: v[3] }
+}
+
+// The schedule with the numbers of a line put in their place.
+pub fn store(c: Schedule, l: Line, v: [i64; 4]) -> Schedule
+    ensures { λ r. ⌜ r ≡ Spec.store c l v ⌝ }
+{
+    match l {
+        Line::CountNames => c,
+        Line::CountLine => with_counts(c, v),
+        Line::EndNames => c,
+        Line::EndLine(i) => with_ends(c, i, ends_of(v)),
+        Line::StepNames => c,
+        Line::StepLine(i, _) => with_step(c, i, step_of(v)),
+    }
+}
+
+// Whether z lies from a to b.
+fn between(a: i64, z: i64, b: i64) -> bool
+    ensures { λ r. ⌜ r ≡ Spec.between a z b ⌝ }
+{
+    if a <= z {
+        z <= b
+    } else {
+        false
+    }
+}
+
+fn within_limit(z: i64) -> bool
+    ensures { λ r. ⌜ r ≡ Spec.withinLimit z ⌝ }
+{
+    between(0 - END_LIMIT, z, END_LIMIT)
+}
+
+// Whether counts stand within their limits.
+fn counts_pass(inputs: i64, squares: i64, steps: i64) -> bool
+    ensures { λ r. ⌜ r ≡ Spec.countsPass inputs squares steps ⌝ }
+{
+    if between(1, inputs, MAX_INPUTS as i64) {
+        if between(0, squares, inputs) {
+            return between(1, steps, MAX_STEPS as i64);
+        }
+    }
+    false
+}
+
+// Whether the ends of an input are within their limits and in order.
+fn ends_pass(e: End) -> bool
+    ensures { λ r. ⌜ r ≡ Spec.endsPass (e .low) (e .high) ⌝ }
+{
+    if within_limit(e.low) {
+        if within_limit(e.high) {
+            return e.low <= e.high;
+        }
+    }
+    false
+}
+
+// Whether z names one of the rows 1 to earlier.
+fn names_row(earlier: usize, z: i64) -> bool
+    ensures { λ r. ⌜ r ≡ Spec.namesRow earlier z ⌝ }
+{
+    if 1 <= z {
+        natural(z) <= earlier
+    } else {
+        false
+    }
+}
+
+// Whether a row field is right: it names an earlier row if it is used, and is 0 otherwise.
+fn row_passes(used: bool, earlier: usize, z: i64) -> bool
+    ensures { λ r. ⌜ r ≡ Spec.rowPasses used earlier z ⌝ }
+{
+    if used {
+        names_row(earlier, z)
+    } else {
+        between(0, z, 0)
+    }
+}
+
+// Whether a value field is right: a constant within the limits if it is used, and 0 otherwise.
+fn value_passes(used: bool, z: i64) -> bool
+    ensures { λ r. ⌜ r ≡ Spec.valuePasses used z ⌝ }
+{
+    if used {
+        within_limit(z)
+    } else {
+        between(0, z, 0)
+    }
+}
+
+// Whether a step's fields are right where so many rows are earlier.
+fn step_passes(earlier: usize, t: Step) -> bool
+    ensures { λ r. ⌜ r ≡ Spec.stepPasses earlier (t .code) (t .first) (t .second) (t .value) ⌝ }
+{
+    if between(1, t.code, LAST_CODE) {
+        if row_passes(2 <= t.code, earlier, t.first) {
+            if row_passes(between(2, t.code, LAST_BINARY), earlier, t.second) {
+                return value_passes(t.code <= 1, t.value);
+            }
+        }
+    }
+    false
+}
+
+// The cause for which the numbers of a line are refused, or 0.
+pub fn fault(l: Line, v: [i64; 4]) -> u64
+    ensures { λ r. ⌜ r ≡ Spec.fault l v ⌝ }
+{
+    match l {
+        Line::CountNames => 0,
+        Line::CountLine => if counts_pass(v[0], v[1], v[2]) { 0 } else { 3 },
+        Line::EndNames => 0,
+        Line::EndLine(_) => if ends_pass(ends_of(v)) { 0 } else { 4 },
+        Line::StepNames => 0,
+        Line::StepLine(_, earlier) => if step_passes(earlier, step_of(v)) { 0 } else { 5 },
+    }
+}

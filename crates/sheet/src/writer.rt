@@ -1,0 +1,65 @@
+// A schedule tested and written, line by line.
+use crate::fields;
+use crate::lines;
+use crate::{Line, Refusal, Schedule};
+ghost use mathlib.Core.Path.{_≡_};
+ghost use mathlib.Core.List.{[]};
+ghost use Prim.Native.Nat.{ℕ, _+_, _≤_, _<_, _^_};
+ghost use lib.ListN.{length};
+ghost use Rattle.sheet.specs.Lines.{lineText, numbers, lineAt};
+ghost use Rattle.sheet.specs.Writing.{faultAt, testLines, linesText};
+ghost use Rattle.sheet.specs.Wrote.{Wrote};
+
+// The fault of text line n of a schedule's sheet, or 0.
+fn fault_at(c: Schedule, n: usize) -> u64
+    ensures { λ r. ⌜ r ≡ faultAt c n ⌝ }
+{
+    let l = lines::line_of(lines::natural(c.inputs), n);
+    lines::fault(l, lines::numbers(c, l))
+}
+
+// The first faulty line among the given number of text lines from a first one on.
+pub fn test_lines(c: Schedule, first: usize, count: usize) -> Refusal
+    requires { ⌜ first + count < 2 ^ 63 ⌝ }
+    ensures { λ r. ⌜ r ≡ testLines count first c ⌝ }
+{
+    let mut i = 0;
+    while i < count {
+        let number = fault_at(c, first + i);
+        if number != 0 {
+            return Refusal { number, place: first + i };
+        }
+        i += 1;
+    }
+    Refusal { number: 0, place: 0 }
+}
+
+// Writes a line of the schedule's sheet.
+fn put_line(out: &mut [u8], at: usize, c: Schedule, l: Line) -> usize
+    requires { ⌜ at + length (lineText l (numbers c l)) ≤ length (now out) ⌝ }
+    ensures { λ r. ⌜ Wrote (now (out .entry)) (now (out .exit)) at r (lineText l (numbers c l)) ⌝ }
+{
+    match l {
+        Line::CountNames => fields::put_bytes(out, at, b"inputs squares steps\n"),
+        Line::EndNames => fields::put_bytes(out, at, b"low high\n"),
+        Line::StepNames => fields::put_bytes(out, at, b"step first second value\n"),
+        Line::CountLine => fields::put_fields(out, at, lines::numbers(c, l), 3),
+        Line::EndLine(_) => fields::put_fields(out, at, lines::numbers(c, l), 2),
+        Line::StepLine(_, _) => fields::put_fields(out, at, lines::numbers(c, l), 4),
+    }
+}
+
+// Writes the first lines of the schedule's sheet, so many, from the start of the bytes on.
+pub fn put_lines(out: &mut [u8], c: Schedule, count: usize) -> usize
+    requires { ⌜ (length (linesText count 1 c) ≤ length (now out)) × (count < 2 ^ 63) ⌝ }
+    ensures { λ r. ⌜ Wrote (now (out .entry)) (now (out .exit)) 0 r (linesText count 1 c) ⌝ }
+{
+    let inputs = lines::natural(c.inputs);
+    let mut p = 0;
+    let mut i = 0;
+    while i < count {
+        p = put_line(out, p, c, lines::line_of(inputs, i + 1));
+        i += 1;
+    }
+    p
+}
