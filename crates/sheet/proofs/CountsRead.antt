@@ -1,18 +1,17 @@
 -- The first two lines of a sheet, names and counts, there and back.
 use mathlib.Core.Path.{_≡_, refl, sym, ap, _∙_}
-use mathlib.Core.List.{List, [], _∷_, _++_, append-assoc, append-nil}
-use Prim.Native.Nat.{ℕ, zero, suc, _+_, _-_, _≤_, _<_}
-use native.Mathlib.Nat.{add-zero}
+use mathlib.Core.List.{List, [], _++_, append-assoc, append-nil}
+use Prim.Native.Nat.{ℕ, _+_, _-_, _≤_}
 use native.Mathlib.Omega.{arith}
-use borrow.Author.Tests.{eq-eqb, eqb-true, eqb-false}
+use borrow.Author.Tests.{eqb-true, eqb-false}
 use lib.Dec.{eqb}
 use lib.ListN.{length, drop, length-append}
-use lib.IntN.{ℤ, pos}
-use Rattle.sheet.specs.Lines.{zeroSchedule, linesLeft, lineOf, lineText, names, width, numbers, store, fault}
-use Rattle.sheet.specs.Reading.{padded, partRead, andThen, readAs, readLines}
-use Rattle.sheet.specs.Writing.{faultAt, textAt, linesText, testLines}
+use lib.IntN.{ℤ}
+use Rattle.sheet.specs.Lines.{zeroSchedule, linesLeft, lineOf, lineText, names, numbers, store, fault}
+use Rattle.sheet.specs.Reading.{padded, partRead, readAs, readLines}
+use Rattle.sheet.specs.Writing.{textAt, linesText}
 use Rattle.sheet.specs.declared.Schedule.{Schedule}
-use Rattle.sheet.specs.declared.Line.the-variants.{CountNames, CountLine, EndNames, EndLine, StepNames, StepLine}
+use Rattle.sheet.specs.declared.Line.the-variants.{CountNames, CountLine}
 use Rattle.sheet.specs.declared.reader.Part.{Part}
 use Rattle.sheet.proofs.Choice.{pick-elim}
 use Rattle.sheet.proofs.FieldLine.{behind, none}
@@ -55,15 +54,15 @@ second-sound s at d next p e first r =
     let stored : p .schedule ≡ counted (r .xs) = r .stored ∙ rw e in
     let num : numbers (p .schedule) CountLine ≡ r .xs = rw stored (numbers-stored zeroSchedule CountLine (r .xs) shape-zero tt (r .count)) in
     let passes : fault CountLine (numbers (p .schedule) CountLine) ≡ 0 = sym (fault-padded CountLine (p .schedule)) ∙ rw num (r .passes) in
-    record
-    { xs = r .xs
-    ; count = r .count
-    ; stored = stored
-    ; is = first ∙ rw (first-text (p .schedule), num, append-assoc (names CountNames) (lineText CountLine (r .xs)) (drop (p .next) s)) (ap (λ (t : List ℕ). names CountNames ++ t) (r .is))
-    ; upto = r .upto
-    ; passes = passes
-    ; counts = counts-line (p .schedule) passes
-    ; shape = rw stored (shape-store zeroSchedule CountLine (padded (r .xs)) shape-zero)
+    record {
+      xs = r .xs;
+      count = r .count;
+      stored = stored;
+      is = first ∙ rw (first-text (p .schedule), num, append-assoc (names CountNames) (lineText CountLine (r .xs)) (drop (p .next) s)) (ap (λ (t : List ℕ). names CountNames ++ t) (r .is));
+      upto = r .upto;
+      passes = passes;
+      counts = counts-line (p .schedule) passes;
+      shape = rw stored (shape-store zeroSchedule CountLine (padded (r .xs)) shape-zero);
     }
 
 pub first-sound : (s : List ℕ) (at : ℕ) → at ≤ length s → readLines 2 1 zeroSchedule s at .refusal .number ≡ 0 → FirstAre s at (readLines 2 1 zeroSchedule s at)
@@ -72,15 +71,16 @@ first-sound s at h =
     let q : Part = readAs CountNames 1 zeroSchedule s at in
     pick-elim (λ (p : Part). p .refusal .number ≡ 0 → FirstAre s at p) (eqb (q .refusal .number) 0) _ _
     (λ e.
-      let r = line-sound CountNames 1 zeroSchedule s at h (eqb-true (q .refusal .number) 0 e) in
-      let d : Schedule = q .schedule in
-      let u : Part = readAs CountLine 2 d s (q .next) in
-      pick-elim (λ (p : Part). p .refusal .number ≡ 0 → FirstAre s at p) (eqb (u .refusal .number) 0) _ _
-      (λ f z.
-        let v = line-sound CountLine 2 d s (q .next) (r .upto) (eqb-true (u .refusal .number) 0 f) in
-        second-sound s at d (q .next) (partRead (u .next) (u .schedule)) (r .stored ∙ names-store zeroSchedule CountNames (padded (r .xs)) refl) (r .is ∙ rw (names-text (r .xs))) (record { xs = v .xs; count = v .count; stored = v .stored; passes = v .passes; is = v .is; upto = v .upto }))
-      (λ f z. absurd (eqb-false (u .refusal .number) 0 f z)))
+    let r = line-sound CountNames 1 zeroSchedule s at h (eqb-true (q .refusal .number) 0 e) in
+    let d : Schedule = q .schedule in
+    let u : Part = readAs CountLine 2 d s (q .next) in
+    pick-elim (λ (p : Part). p .refusal .number ≡ 0 → FirstAre s at p) (eqb (u .refusal .number) 0) _ _
+    (λ f z.
+    let v = line-sound CountLine 2 d s (q .next) (r .upto) (eqb-true (u .refusal .number) 0 f) in
+    second-sound s at d (q .next) (partRead (u .next) (u .schedule)) (r .stored ∙ names-store zeroSchedule CountNames (padded (r .xs)) refl) (r .is ∙ rw (names-text (r .xs))) (record { xs = v .xs; count = v .count; stored = v .stored; passes = v .passes; is = v .is; upto = v .upto }))
+    (λ f z. absurd (eqb-false (u .refusal .number) 0 f z)))
     (λ e z. absurd (eqb-false (q .refusal .number) 0 e z))
+
 pub first-complete : (w : Schedule) (s : List ℕ) (at : ℕ) (rest : List ℕ) → CountsPassed (w .inputs) (w .squares) (w .steps) → fault CountLine (numbers w CountLine) ≡ 0
     → drop at s ≡ linesText 2 1 w ++ rest → readLines 2 1 zeroSchedule s at ≡ partRead (at + length (linesText 2 1 w)) (counted (numbers w CountLine))
 unfolding readLines lineOf
@@ -89,9 +89,9 @@ first-complete w s at rest p f e =
     let e1 : drop at s ≡ names CountNames ++ (t ++ rest) = e ∙ rw (first-text w, append-assoc (names CountNames) t rest) in
     let e2 : drop (at + 21) s ≡ t ++ rest = behind s at (names CountNames) (t ++ rest) e1 in
     let a : readAs CountNames 1 zeroSchedule s at ≡ partRead (at + 21) zeroSchedule =
-      line-complete CountNames 1 zeroSchedule s at [] (t ++ rest) refl none (names-fault CountNames (padded []) refl) (e1 ∙ rw (names-text [])) ∙ rw (names-text [], names-store zeroSchedule CountNames (padded []) refl) in
+    line-complete CountNames 1 zeroSchedule s at [] (t ++ rest) refl none (names-fault CountNames (padded []) refl) (e1 ∙ rw (names-text [])) ∙ rw (names-text [], names-store zeroSchedule CountNames (padded []) refl) in
     let b : readAs CountLine 2 zeroSchedule s (at + 21) ≡ partRead (at + 21 + length t) (counted (numbers w CountLine)) =
-      line-complete CountLine 2 zeroSchedule s (at + 21) (numbers w CountLine) rest (numbers-width w CountLine) (ten-digits-counts w p) (fault-padded CountLine w ∙ f) e2 in
+    line-complete CountLine 2 zeroSchedule s (at + 21) (numbers w CountLine) rest (numbers-width w CountLine) (ten-digits-counts w p) (fault-padded CountLine w ∙ f) e2 in
     let n : at + 21 + length t ≡ at + length (linesText 2 1 w) = rw (first-text w, length-append (names CountNames) t) (omega arith) in
     rw (a, b, n)
 

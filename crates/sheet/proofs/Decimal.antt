@@ -1,20 +1,18 @@
 -- Laws of decimal numeral. Assumes nothing.
-use mathlib.Core.Path.{_≡_, refl, sym, ap, _∙_}
-use mathlib.Core.Bool.{Bool, true, false}
-use mathlib.Core.List.{List, [], _∷_, _++_, append-assoc, append-nil}
+use mathlib.Core.Path.{_≡_, refl, ap, _∙_}
+use mathlib.Core.Bool.{true, false}
+use mathlib.Core.List.{List, [], _∷_, _++_}
 use Prim.Native.Nat.{ℕ, zero, suc, _+_, _-_, _*_, _/_, _%_, _^_, _≤_, _<_}
-use native.Mathlib.Nat.{add-zero, add-suc, suc-add, pow-suc}
-use native.Mathlib.Numerals.{add-one, sub-one}
+use native.Mathlib.Nat.{pow-suc}
+use native.Mathlib.Numerals.{sub-one}
 use native.Mathlib.Omega.{arith}
-use borrow.Author.Tests.{lt-ltb, le-ltb, ltb-true, ltb-false}
+use borrow.Author.Tests.{lt-ltb, le-ltb, ltb-true}
 use lib.Dec.{ltb}
 use lib.Signed.{ltZ}
 use mir.Syntax.{w64}
 use mir.Val.{SFits, toZ, ofZ}
 use mir.ValLaws.{toZ-ofZ}
-use lib.ListN.{length, set, length-append}
-use lib.Seq.{sets}
-use Rattle.sheet.specs.Number.{pick}
+use lib.ListN.{length, length-append}
 use Rattle.sheet.specs.Text.{decimal, numeral}
 use lib.IntN.{ℤ, pos, negsuc, natAbs}
 use Rattle.sheet.proofs.Choice.{pick-elim}

@@ -1,17 +1,16 @@
 -- Runs of digits: what one byte more does to a run, and where a run ends.
-use mathlib.Core.Path.{_≡_, refl, sym, ap, _∙_}
-use mathlib.Core.List.{List, [], _∷_, _++_}
+use mathlib.Core.Path.{_≡_}
+use mathlib.Core.List.{List, [], _∷_}
 use Prim.Native.Nat.{ℕ, suc, _+_, _*_, _≤_, _<_}
 use native.Mathlib.Numerals.{add-one}
 use native.Mathlib.Omega.{arith}
 use native.Mathlib.Decide.{decLt}
-use mathlib.Core.Bool.{Bool, true, false}
 use borrow.Author.Tests.{lt-ltb, le-ltb, ltb-true}
-use lib.Dec.{ltb, leb, eqb}
-use lib.ListN.{length, drop, getD, drop-of-length-le, List·getD-eq-default, length-drop}
+use lib.Dec.{ltb}
+use lib.ListN.{length, drop, getD, drop-of-length-le, List·getD-eq-default}
 use lib.Seq.{drop-cons}
 use Rattle.sheet.specs.declared.number.Run.{Run}
-use Rattle.sheet.specs.Number.{run, digitOf, runOf, pick}
+use Rattle.sheet.specs.Number.{run, digitOf, runOf}
 use Rattle.sheet.proofs.Choice.{pick-elim}
 
 module _ (s : List ℕ) (i v : ℕ) where
@@ -45,9 +44,9 @@ run-within a p (b ∷ bs) h =
     let stop : Within a p (length (b ∷ bs)) (runOf a p) = record { small = h; from = omega arith; upto = omega arith } in
     pick-elim (Within a p (suc (length bs))) (ltb (digitOf b) 10) _ _
     (λ d. pick-elim (Within a p (suc (length bs))) (ltb a 1000000000) _ _
-      (λ f. let w = run-within (a * 10 + digitOf b) (suc p) bs (omega (arith, ltb-true (digitOf b) 10 d, ltb-true a 1000000000 f)) in
-        record { small = w .small; from = omega arith; upto = omega arith })
-      (λ f. stop))
+    (λ f. let w = run-within (a * 10 + digitOf b) (suc p) bs (omega (arith, ltb-true (digitOf b) 10 d, ltb-true a 1000000000 f)) in
+    record { small = w .small; from = omega arith; upto = omega arith })
+    (λ f. stop))
     (λ d. stop)
 
 -- a byte that is not 0 stands before the end

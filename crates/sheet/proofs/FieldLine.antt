@@ -1,13 +1,12 @@
 -- A line of fields: one field more for the loops, and both laws of a whole line, by induction over its fields.
 use mathlib.Core.Path.{_≡_, refl, sym, ap, _∙_}
-use mathlib.Core.Bool.{Bool, true, false}
-use mathlib.Core.List.{List, [], _∷_, _++_, append-assoc, append-nil}
-use Prim.Native.Nat.{ℕ, zero, suc, _+_, _-_, _*_, _≤_, _<_}
+use mathlib.Core.Bool.{true}
+use mathlib.Core.List.{List, [], _∷_, _++_, append-assoc}
+use Prim.Native.Nat.{ℕ, zero, suc, _+_, _-_, _≤_, _<_}
 use native.Mathlib.Nat.{add-zero}
 use native.Mathlib.Numerals.{add-one}
 use native.Mathlib.Omega.{arith}
-use native.Mathlib.Decide.{ℕ-discrete, decLt}
-use lib.ListN.{length, drop, getD, take, set, length-append, length-set}
+use lib.ListN.{length, drop, getD, take, set, length-append}
 use lib.Seq.{sets, drop-drop, drop-append-seam, getD-take, length-take-le}
 use lib.IntN.{ℤ, pos, negsuc, natAbs}
 use mir.Syntax.{w64}
@@ -18,7 +17,7 @@ use Rattle.sheet.specs.Reading.{onField, zeros, padded, noFields, fields
 use Rattle.sheet.specs.declared.number.Field.{Field}
 use Rattle.sheet.specs.declared.number.Field.the-variants.{Number, Broken}
 use Rattle.sheet.specs.declared.fields.Fields.{Fields}
-use Rattle.sheet.proofs.Numeral.{field-sound, Stands, field-complete}
+use Rattle.sheet.proofs.Numeral.{field-sound, field-complete}
 
 pub end-byte-last : (i k : ℕ) → k - i ≡ 1 → 10 ≡ endByte (k - (i + 1))
 end-byte-last i k h = let e : k - (i + 1) ≡ 0 = omega arith in rw e
@@ -96,16 +95,20 @@ fields-from-sound (suc k) i v s at g = go (fieldAt s at (endByte k)) refl (λ x 
   where
     R : Field → Fields
     R f = onField f (λ x n. fieldsFrom k (suc i) (set v i x) s n) noFields
+
     go : (f : Field) → fieldAt s at (endByte k) ≡ f
         → ((x : ℤ) (n : ℕ) → n ≤ length s → fieldsFrom k (suc i) (set v i x) s n .ok ≡ true → FieldsAre s n k (suc i) (set v i x) (fieldsFrom k (suc i) (set v i x) s n))
         → R f .ok ≡ true → FieldsAre s at (suc k) i v (R f)
     go (Number x n) e ih o =
         let st = field-sound s at (endByte k) x n (end-byte-above-zero k) g e in
         let r = ih x n (st .upto) o in
-        record
-        { xs = x ∷ r .xs; count = ap suc (r .count)
-        ; is = st .is ∙ rw (r .count) (ap (λ (l : List ℕ). numeral x ++ (endByte k ∷ l)) (r .is) ∙ sym (append-assoc (numeral x) (endByte k ∷ line (r .xs)) (drop (R (Number x n) .next) s)))
-        ; upto = r .upto; into = r .into }
+        record {
+          xs = x ∷ r .xs;
+          count = ap suc (r .count);
+          is = st .is ∙ rw (r .count) (ap (λ (l : List ℕ). numeral x ++ (endByte k ∷ l)) (r .is) ∙ sym (append-assoc (numeral x) (endByte k ∷ line (r .xs)) (drop (R (Number x n) .next) s)));
+          upto = r .upto;
+          into = r .into;
+        }
     go Broken e ih o = absurd (let y : _≡_ {A = ℕ} 0 1 = cc in omega arith)
 
 pub fields-sound : (s : List ℕ) (at k : ℕ) → at ≤ length s → fieldsAt s at k .ok ≡ true → FieldsAre s at k 0 zeros (fieldsAt s at k)
@@ -148,7 +151,7 @@ front-more i xs h = rw add-one (go i xs h)
     go (suc i) (x ∷ xs) h =
         let e : suc (length xs) - suc (suc i) ≡ length xs - suc i = omega arith in
         rw e (ap (λ (l : List ℕ). numeral x ++ (endByte (length xs) ∷ l)) (go i xs (omega arith))
-          ∙ sym (append-assoc (numeral x) (endByte (length xs) ∷ front i xs) _))
+        ∙ sym (append-assoc (numeral x) (endByte (length xs) ∷ front i xs) _))
 
 pub front-all : (i : ℕ) (xs : List ℤ) → length xs ≤ i → front i xs ≡ line xs
 unfolding front line
@@ -172,9 +175,9 @@ module _ (v : List ℤ) (k i : ℕ) (room : k ≤ length v) (h : i < k) where
 
   pub front-room : length (front i (take k v)) + length (numeral (getD v i (pos 0)) ++ (endByte (k - (i + 1)) ∷ [])) ≤ length (line (take k v))
   front-room =
-      omega
-      ( arith
-      , front-short (i + 1) (take k v)
-      , ap length front-next
-      , length-append (front i (take k v)) (numeral (getD v i (pos 0)) ++ (endByte (k - (i + 1)) ∷ []))
+      omega (
+        arith,
+        front-short (i + 1) (take k v),
+        ap length front-next,
+        length-append (front i (take k v)) (numeral (getD v i (pos 0)) ++ (endByte (k - (i + 1)) ∷ [])),
       )

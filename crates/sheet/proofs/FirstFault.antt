@@ -2,21 +2,20 @@
 -- 2 is told exactly where the layout of that line is broken, and otherwise the fault of its numbers.
 use mathlib.Core.Path.{_≡_, refl, sym, ap, _∙_}
 use mathlib.Core.Bool.{Bool, true, false}
-use mathlib.Core.Logic.{_⊎_, inl, inr}
-use mathlib.Core.List.{List, [], _∷_, _++_, append-assoc, append-nil}
+use mathlib.Core.List.{List, [], _++_, append-assoc}
 use Prim.Native.Nat.{ℕ, zero, suc, _+_, _-_, _≤_, _<_}
 use native.Mathlib.Nat.{add-zero}
 use native.Mathlib.Omega.{arith}
-use native.Mathlib.Decide.{decLe, ℕ-discrete}
-use borrow.Author.Tests.{eq-eqb, ne-eqb, eqb-true, eqb-false}
+use native.Mathlib.Decide.{ℕ-discrete}
+use borrow.Author.Tests.{eq-eqb, ne-eqb}
 use lib.Dec.{eqb, ltb}
 use lib.ListN.{length, drop, length-append, length-drop}
 use lib.IntN.{ℤ}
 use Rattle.sheet.specs.Limits.{maxBytes}
-use Rattle.sheet.specs.Causes.{refusal, accepted, lineBroken}
+use Rattle.sheet.specs.Causes.{refusal, accepted}
 use Rattle.sheet.specs.Text.{line}
 use Rattle.sheet.specs.Lines.{natural, zeroSchedule, lineOf, lineAt, linesLeft, lineText, names, width, numbers, fault}
-use Rattle.sheet.specs.Reading.{padded, fieldsAt, starts, partRead, andThen, readAs, readLine, readLines, readSheet, readOf}
+use Rattle.sheet.specs.Reading.{padded, fieldsAt, starts, partRead, readAs, readLine, readLines, readSheet, readOf}
 use Rattle.sheet.specs.Writing.{faultAt, textAt, linesText}
 use Rattle.sheet.specs.declared.Schedule.{Schedule}
 use Rattle.sheet.specs.declared.Line.{Line}
@@ -27,13 +26,13 @@ use Rattle.sheet.specs.declared.fields.Fields.{Fields}
 use Rattle.sheet.specs.declared.reader.Part.{Part}
 use Rattle.sheet.proofs.Choice.{pick-elim}
 use Rattle.sheet.proofs.Prefix.{starts-complete}
-use Rattle.sheet.proofs.FieldLine.{FieldsAre, fields-sound, fields-complete, TenDigits, none, behind}
-use Rattle.sheet.proofs.LineKinds.{SameCounts, kind, names-fault, names-store}
+use Rattle.sheet.proofs.FieldLine.{fields-sound, fields-complete, TenDigits, none, behind}
+use Rattle.sheet.proofs.LineKinds.{kind, names-fault, names-store}
 use Rattle.sheet.proofs.LineRead.{firstPart, secondPart, sheet-first, sheet-second, sheet-ends, sheet-goes-on}
-use Rattle.sheet.proofs.SheetRead.{LineIs, line-sound, line-complete, lines-complete, copied, LinesAre, lines-sound, Within}
-use Rattle.sheet.proofs.CountsRead.{FirstAre, first-sound, first-complete, same-first, counted}
+use Rattle.sheet.proofs.SheetRead.{line-sound, line-complete, lines-complete, copied, lines-sound, Within}
+use Rattle.sheet.proofs.CountsRead.{first-sound, first-complete, same-first, counted}
 use Rattle.sheet.proofs.Passing.{CountsPassed}
-use Rattle.sheet.proofs.Passed.{counts-line, lines-left-small, ten-digits, within-counts, rooms-counted}
+use Rattle.sheet.proofs.Passed.{counts-line, lines-left-small, ten-digits, rooms-counted}
 use Rattle.sheet.proofs.Trimmed.{counted-same}
 
 -- the first `p` lines of `s` are in order: they are the first `p` lines of a schedule's sheet, and each passes
@@ -64,16 +63,19 @@ line-refused l n c s at h =
     let P : Part → Type 0 = λ p. (p .refusal .number ≡ 0 → ⊥) → LineRefused l n s at p in
     pick-elim P (eqb (width l) 0) _ _
     (λ w. pick-elim P (starts (drop at s) (names l)) _ _
-      (λ e z. absurd (z refl))
-      (λ e z. record { place = refl; why = layout refl (λ xs rest k d q. clash (sym (rw q (rw w (starts-complete (names l) rest))) ∙ e)) }))
+    (λ e z. absurd (z refl))
+    (λ e z. record { place = refl; why = layout refl (λ xs rest k d q. clash (sym (rw q (rw w (starts-complete (names l) rest))) ∙ e)) }))
     (λ w. pick-elim P (f .ok) _ _
-      (λ o. pick-elim P (eqb (fault l (f .values)) 0) _ _
-        (λ e z. absurd (z refl))
-        (λ e z.
-          let r = fields-sound s at (width l) h o in
-          record { place = refl; why = meaning (r .xs) (drop (f .next) s) (r .count) (rw w (r .is)) (rw (r .into)) z }))
-      (λ o z. record { place = refl; why = layout refl (λ xs rest k d q.
-        let t = rw k at (fields-complete xs s at rest d (rw w at q)) in clash (sym (ap (λ (x : Fields). x .ok) t) ∙ o)) }))
+    (λ o. pick-elim P (eqb (fault l (f .values)) 0) _ _
+    (λ e z. absurd (z refl))
+    (λ e z.
+    let r = fields-sound s at (width l) h o in
+    record { place = refl; why = meaning (r .xs) (drop (f .next) s) (r .count) (rw w (r .is)) (rw (r .into)) z }))
+    (λ o z. record {
+      place = refl;
+      why = layout refl (λ xs rest k d q.
+          let t = rw k at (fields-complete xs s at rest d (rw w at q)) in clash (sym (ap (λ (x : Fields). x .ok) t) ∙ o));
+    }))
 
 -- a refused run: the lines before the refused one are accepted
 pub record RunRefused (k n : ℕ) (c : Schedule) (s : List ℕ) (at : ℕ) : Type 0 where
@@ -106,18 +108,18 @@ lines-refused (suc k) n c s at z = go (ℕ-discrete (readLine n c s at .refusal 
         let a : ℕ = readLine n c s at .next in
         let r = ih d a (λ y. z (rw (run-more k n c s at e) y)) in
         let m : n + suc (r .j) ≡ suc n + r .j = omega arith in
-        record
-        { j = suc (r .j)
-        ; among = omega (arith, r .among)
-        ; before = rw (run-more (r .j) n c s at e) (r .before)
-        ; here = rw (run-more (r .j) n c s at e, run-more k n c s at e, m) (r .here)
+        record {
+          j = suc (r .j);
+          among = omega (arith, r .among);
+          before = rw (run-more (r .j) n c s at e) (r .before);
+          here = rw (run-more (r .j) n c s at e, run-more k n c s at e, m) (r .here);
         }
-    go (no e) ih = record
-        { j = 0
-        ; among = omega arith
-        ; before = rw (run-none n c s at)
-        ; here = rw (run-none n c s at, add-zero n) (sym (run-stop k n c s at e))
-        }
+    go (no e) ih = record {
+      j = 0;
+      among = omega arith;
+      before = rw (run-none n c s at);
+      here = rw (run-none n c s at, add-zero n) (sym (run-stop k n c s at e));
+    }
 
 -- behind an accepted run the reading goes on from there
 lines-append : (j k n : ℕ) (c : Schedule) (s : List ℕ) (at a : ℕ) (d : Schedule) → readLines j n c s at ≡ partRead a d → readLines (j + k) n c s at ≡ readLines k (n + j) d s a
@@ -147,8 +149,8 @@ line-place l n c s at =
     pick-elim P (eqb (width l) 0) _ _
     (λ w. pick-elim P (starts (drop at s) (names l)) _ _ (λ e z. absurd (z refl)) (λ e z. refl))
     (λ w. pick-elim P (f .ok) _ _
-      (λ o. pick-elim P (eqb (fault l (f .values)) 0) _ _ (λ e z. absurd (z refl)) (λ e z. refl))
-      (λ o z. refl))
+    (λ o. pick-elim P (eqb (fault l (f .values)) 0) _ _ (λ e z. absurd (z refl)) (λ e z. refl))
+    (λ o z. refl))
 
 lines-place : (k n : ℕ) (c : Schedule) (s : List ℕ) (at : ℕ) → (readLines k n c s at .refusal .number ≡ 0 → ⊥) → (n ≤ readLines k n c s at .refusal .place) × (readLines k n c s at .refusal .place < n + k)
 lines-place k n c s at z =
@@ -156,7 +158,7 @@ lines-place k n c s at z =
     let d : Schedule = readLines (r .j) n c s at .schedule in
     let a : ℕ = readLines (r .j) n c s at .next in
     let e : readLines k n c s at .refusal .place ≡ n + r .j =
-      ap (λ (p : Part). p .refusal .place) (sym (r .here)) ∙ line-place (lineAt d (n + r .j)) (n + r .j) d s a (λ y. z (ap (λ (p : Part). p .refusal .number) (sym (r .here)) ∙ y)) in
+    ap (λ (p : Part). p .refusal .place) (sym (r .here)) ∙ line-place (lineAt d (n + r .j)) (n + r .j) d s a (λ y. z (ap (λ (p : Part). p .refusal .number) (sym (r .here)) ∙ y)) in
     (omega arith, omega (arith, r .among))
 
 -- ---- lines in order are read
@@ -286,9 +288,9 @@ read-names : (s : List ℕ) → readLine 1 zeroSchedule s 0 .refusal .number ≡
     → (readLine 1 zeroSchedule s 0 .schedule ≡ zeroSchedule) × ReadSoFar 1 s zeroSchedule (readLine 1 zeroSchedule s 0 .next)
 unfolding lineOf linesText textAt lineText faultAt fault
 read-names s e =
-    let r = line-sound CountNames 1 zeroSchedule s 0 (omega arith) e in
-    ( r .stored ∙ names-store zeroSchedule CountNames (padded (r .xs)) refl
-    , record { is = r .is; upto = r .upto; passes = λ i a b. let k : i ≡ 1 = omega arith in rw k; there = omega arith }
+    let r = line-sound CountNames 1 zeroSchedule s 0 (omega arith) e in (
+      r .stored ∙ names-store zeroSchedule CountNames (padded (r .xs)) refl,
+      record { is = r .is; upto = r .upto; passes = λ i a b. let k : i ≡ 1 = omega arith in rw k; there = omega arith },
     )
 
 -- the counts and `j` lines more were read
@@ -303,17 +305,17 @@ read-lines s j z h p e y =
     let r = rw e at (lines-sound j 3 c s (firstPart s .next) (omega arith) w (f .upto) (rw e y)) in
     let d : Schedule = p .schedule in
     let (first, left, n) = same-first (r .counts) in
-    let m : j + 2 ≡ 2 + j = omega arith in
-    ( left
-    , record
-      { is = f .is ∙ rw (m, text-split 2 j 1 d, first, append-assoc (linesText 2 1 c) (linesText j 3 d) (drop (p .next) s)) (ap (λ (l : List ℕ). linesText 2 1 c ++ l) (r .is))
-      ; upto = r .upto
-      ; passes = λ i a b. elim (ℕ-discrete i 1)
-          [ yes k ↦ rw k
+    let m : j + 2 ≡ 2 + j = omega arith in (
+      left,
+      record {
+        is = f .is ∙ rw (m, text-split 2 j 1 d, first, append-assoc (linesText 2 1 c) (linesText j 3 d) (drop (p .next) s)) (ap (λ (l : List ℕ). linesText 2 1 c ++ l) (r .is));
+        upto = r .upto;
+        passes = λ i a b. elim (ℕ-discrete i 1) [
+          | yes k ↦ rw k
           | no k ↦ elim (ℕ-discrete i 2) [ yes q ↦ rw (q, n) (f .passes) | no q ↦ r .passes i (omega (arith, k, q)) (omega arith) ]
-          ]
-      ; there = omega (arith, left)
-      }
+        ];
+        there = omega (arith, left);
+      },
     )
 
 -- ---- the theorem
@@ -348,16 +350,20 @@ sheet-located s z = go (ℕ-discrete (firstPart s .refusal .number) 0) (ℕ-disc
   where
     q : Part
     q = readLine 1 zeroSchedule s 0
+
     u : Part
     u = readLine 2 (q .schedule) s (q .next)
+
     c : Schedule
     c = firstPart s .schedule
+
     counts-refused : (firstPart s .refusal .number ≡ 0 → ⊥) → q .refusal .number ≡ 0 → Dec (u .refusal .number ≡ 0) → Located s (firstPart s .refusal)
     counts-refused a e (yes f) =
         absurd (a (ap (λ (p : Part). p .refusal .number) (run-more 1 1 zeroSchedule s 0 e ∙ run-more 0 2 (q .schedule) s (q .next) f ∙ run-none 3 (u .schedule) s (u .next))))
     counts-refused a e (no f) =
         let (k, r) = read-names s e in
         located r (firstPart s) (sym (run-more 1 1 zeroSchedule s 0 e ∙ run-stop 0 2 (q .schedule) s (q .next) f ∙ rw k)) a
+
     go : Dec (firstPart s .refusal .number ≡ 0) → Dec (secondPart s .refusal .number ≡ 0) → Dec (secondPart s .next ≡ length s) → Dec (q .refusal .number ≡ 0)
         → Located s (readSheet s .refusal)
     go (no a) b d (no e) = rw (sheet-first s a) (located (read-none s) (firstPart s) (sym (run-stop 1 1 zeroSchedule s 0 e)) a)
@@ -383,8 +389,8 @@ first-fault s q p =
     pick-elim (λ (r : ReadAnswer). r .refusal ≡ refusal q p → 2 ≤ q → FirstFault s (refusal q p)) (ltb maxBytes (length s)) _ _
     (λ l e h. absurd (let i : 1 ≡ q = ap (λ (r : Refusal). r .number) e in omega arith))
     (λ l e h.
-      let n : readSheet s .refusal .number ≡ q = ap (λ (r : Refusal). r .number) e in
-      let i : readSheet s .refusal .place ≡ p = ap (λ (r : Refusal). r .place) e in
-      let z : readSheet s .refusal .number ≡ 0 → ⊥ = λ y. omega arith in
-      let t : Located s (refusal q p) = rw e at (sheet-located s z) in
-      record { before = t .before; not-here = λ o. omega (arith, order-before s p o z); reason = t .reason })
+    let n : readSheet s .refusal .number ≡ q = ap (λ (r : Refusal). r .number) e in
+    let i : readSheet s .refusal .place ≡ p = ap (λ (r : Refusal). r .place) e in
+    let z : readSheet s .refusal .number ≡ 0 → ⊥ = λ y. omega arith in
+    let t : Located s (refusal q p) = rw e at (sheet-located s z) in
+    record { before = t .before; not-here = λ o. omega (arith, order-before s p o z); reason = t .reason })

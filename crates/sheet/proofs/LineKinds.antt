@@ -1,17 +1,16 @@
 -- The kinds of lines: which line is of which kind, and what storing one line's numbers does to the numbers of it and of the others.
-use mathlib.Core.Path.{_≡_, refl, sym, ap, _∙_}
-use mathlib.Core.Bool.{Bool, true, false}
-use mathlib.Core.List.{List, [], _∷_, _++_}
-use Prim.Native.Nat.{ℕ, zero, suc, _+_, _-_, _≤_, _<_}
+use mathlib.Core.Path.{_≡_, refl, ap, _∙_}
+use mathlib.Core.List.{List, [], _∷_}
+use Prim.Native.Nat.{ℕ, _+_, _-_, _≤_, _<_}
 use native.Mathlib.Omega.{arith}
 use native.Mathlib.Decide.{decLt, ℕ-discrete}
 use borrow.Author.Tests.{lt-ltb, le-ltb, lt-leb, eq-eqb, ne-eqb}
-use lib.ListN.{length, getD, set, length-set}
+use lib.ListN.{length, length-set}
 use lib.Seq.{getD-set-same, getD-set-other}
-use lib.IntN.{ℤ, pos}
+use lib.IntN.{ℤ}
 use Rattle.sheet.specs.Limits.{maxInputs, maxSteps}
-use Rattle.sheet.specs.Lines.{lineOf, width, numbers, store, fault, endsAt, stepAt, endsOf, stepOf, zeroEnd, zeroStep, endNumbers, stepNumbers}
-use Rattle.sheet.specs.Reading.{padded, zeros}
+use Rattle.sheet.specs.Lines.{lineOf, width, numbers, store, fault, endsOf, stepOf, zeroEnd, zeroStep, endNumbers, stepNumbers}
+use Rattle.sheet.specs.Reading.{padded}
 use Rattle.sheet.specs.declared.End.{End}
 use Rattle.sheet.specs.declared.Step.{Step}
 use Rattle.sheet.specs.declared.Schedule.{Schedule}
@@ -37,23 +36,23 @@ module _ (inputs n : ℕ) where
   pub is-step-names : n ≡ inputs + 4 → lineOf inputs n ≡ StepNames
   unfolding lineOf
   is-step-names e =
-      simp
-      ( lt-leb n 1 (omega arith)
-      , ne-eqb n 2 (λ z. omega arith)
-      , ne-eqb n 3 (λ z. omega arith)
-      , le-ltb (n - 4) inputs (omega arith)
-      , eq-eqb (n - 4) inputs (omega arith)
+      simp (
+        lt-leb n 1 (omega arith),
+        ne-eqb n 2 (λ z. omega arith),
+        ne-eqb n 3 (λ z. omega arith),
+        le-ltb (n - 4) inputs (omega arith),
+        eq-eqb (n - 4) inputs (omega arith),
       )
 
   pub is-step-line : inputs + 5 ≤ n → lineOf inputs n ≡ StepLine (n - 5 - inputs) (n - 5)
   unfolding lineOf
   is-step-line h =
-      simp
-      ( lt-leb n 1 (omega arith)
-      , ne-eqb n 2 (λ z. omega arith)
-      , ne-eqb n 3 (λ z. omega arith)
-      , le-ltb (n - 4) inputs (omega arith)
-      , ne-eqb (n - 4) inputs (λ z. omega arith)
+      simp (
+        lt-leb n 1 (omega arith),
+        ne-eqb n 2 (λ z. omega arith),
+        ne-eqb n 3 (λ z. omega arith),
+        le-ltb (n - 4) inputs (omega arith),
+        ne-eqb (n - 4) inputs (λ z. omega arith),
       )
 
   pub kind : 3 ≤ n → Kind inputs n (lineOf inputs n)

@@ -1,17 +1,13 @@
 -- One line and several lines of a sheet: an equation for each way through the reader's code, and where the next line starts.
-use mathlib.Core.Path.{_≡_, refl, sym, ap, _∙_}
-use mathlib.Core.Bool.{Bool, true, false}
-use mathlib.Core.List.{List, [], _∷_, _++_}
+use mathlib.Core.Path.{_≡_, refl, ap}
+use mathlib.Core.Bool.{true, false}
+use mathlib.Core.List.{List}
 use Prim.Native.Nat.{ℕ, zero, suc, _+_, _-_, _≤_, _<_}
-use native.Mathlib.Nat.{add-zero, add-suc, suc-add}
-use native.Mathlib.Numerals.{add-one}
 use native.Mathlib.Omega.{arith}
 use borrow.Author.Tests.{eq-eqb, ne-eqb, eqb-true, eqb-false}
 use lib.Dec.{eqb}
 use lib.ListN.{length, drop, length-drop, length-append}
-use lib.IntN.{ℤ, pos}
-use Rattle.sheet.specs.Number.{pick}
-use Rattle.sheet.specs.Causes.{refusal, accepted, lineBroken}
+use Rattle.sheet.specs.Causes.{refusal, lineBroken}
 use Rattle.sheet.specs.Lines.{zeroSchedule, lineAt, linesLeft, names, width, store, fault}
 use Rattle.sheet.specs.Reading.{fieldsAt, starts, partRead, partRefused, valuesRead, readAs, readLine, readLines, readSheet}
 use Rattle.sheet.specs.declared.Schedule.{Schedule}
@@ -65,13 +61,13 @@ line-read l n c s at h =
     let P : Part → Type 0 = λ p. p .refusal .number ≡ 0 → PartRead s p in
     pick-elim P (eqb (width l) 0) _ _
     (λ w. pick-elim P (starts (drop at s) (names l)) _ _
-      (λ e z. record { whole = refl; upto = starts-within s at (names l) h e })
-      (λ e z. absurd (omega (arith, z))))
+    (λ e z. record { whole = refl; upto = starts-within s at (names l) h e })
+    (λ e z. absurd (omega (arith, z))))
     (λ w. pick-elim P (f .ok) _ _
-      (λ o. pick-elim P (eqb (fault l (f .values)) 0) _ _
-        (λ e z. record { whole = refl; upto = fields-at-within s at (width l) h })
-        (λ e z. absurd (eqb-false (fault l (f .values)) 0 e z)))
-      (λ o z. absurd (omega (arith, z))))
+    (λ o. pick-elim P (eqb (fault l (f .values)) 0) _ _
+    (λ e z. record { whole = refl; upto = fields-at-within s at (width l) h })
+    (λ e z. absurd (eqb-false (fault l (f .values)) 0 e z)))
+    (λ o z. absurd (omega (arith, z))))
 
 -- the loop of `read_lines`: line `first + i` of `count` lines from `first` on
 module _ (s : List ℕ) (count first i at : ℕ) (c : Schedule) where

@@ -11,15 +11,16 @@ use Rattle.sheet.proofs.Decimal.{decimal-one}
 use borrow.Author.Tests.{lt-ltb, le-ltb, le-leb, lt-leb, ltb-true, ltb-false, leb-false, eqb-true, eqb-false, eq-eqb, ne-eqb}
 use lib.Dec.{ltb, leb, eqb}
 use lib.IntN.{ℤ, pos, negsuc, natAbs}
-use lib.Seq.{drop-nil, getD-drop, getD-append-seam, drop-cons, drop-drop, drop-append-seam}
-use lib.ListN.{length, drop, getD, length-append, length-drop}
-use Rattle.sheet.specs.Number.{pick, digitOf, run, runOf, signedOf, judged, afterSign, fieldAt}
+use lib.Seq.{drop-nil, getD-drop, getD-append-seam, drop-cons, drop-drop}
+use lib.ListN.{length, drop, getD, length-append}
+use Rattle.sheet.specs.Choice.{pick}
+use Rattle.sheet.specs.Number.{digitOf, run, runOf, signedOf, judged, afterSign, fieldAt}
 use Rattle.sheet.specs.declared.number.Run.{Run}
 use Rattle.sheet.specs.declared.number.Field.{Field}
 use Rattle.sheet.specs.declared.number.Field.the-variants.{Number, Broken}
 use Rattle.sheet.specs.Text.{decimal, numeral}
 use Rattle.sheet.proofs.Choice.{pick-elim}
-use Rattle.sheet.proofs.Digits.{run-within, Within, inside}
+use Rattle.sheet.proofs.Digits.{run-within, inside}
 
 digit-of : (d : ℕ) → d < 10 → digitOf (d + 48) ≡ d
 digit-of d h = simp (le-ltb (d + 48) 48 (omega arith), le-leb (d + 48) 57 (omega arith)) (omega arith)
@@ -39,13 +40,13 @@ run-decimal zero n p rest h g = let z : n ≡ 0 = omega arith in let y : p + 0 �
 run-decimal (suc k) n p rest h g =
     pick-elim (λ (l : List ℕ). run 0 p (l ++ rest) ≡ run n (p + length l) rest) (ltb n 10) ((n + 48) ∷ []) (decimal k (n / 10) ++ ((n % 10 + 48) ∷ []))
     (λ e. let b : n < 10 = ltb-true n 10 e in
-      run-step 0 p n rest (omega arith) b ∙ (let x : 0 * 10 + n ≡ n = omega arith in let y : p + 1 ≡ suc p = omega arith in rw (x, y)))
+    run-step 0 p n rest (omega arith) b ∙ (let x : 0 * 10 + n ≡ n = omega arith in let y : p + 1 ≡ suc p = omega arith in rw (x, y)))
     (λ e. let d : ℕ = n % 10 in let m : ℕ = n / 10 in
-      let w : n < 10 ^ k * 10 = rw pow-suc at h in
-      rw (append-assoc (decimal k m) ((d + 48) ∷ []) rest, length-append (decimal k m) ((d + 48) ∷ []))
-      (run-decimal k m p ((d + 48) ∷ rest) (omega arith) (omega arith)
-        ∙ run-step m (p + length (decimal k m)) d rest (omega arith) (omega arith)
-        ∙ (let x : m * 10 + d ≡ n = omega arith in let y : p + (length (decimal k m) + 1) ≡ suc (p + length (decimal k m)) = omega arith in rw (x, y))))
+    let w : n < 10 ^ k * 10 = rw pow-suc at h in
+    rw (append-assoc (decimal k m) ((d + 48) ∷ []) rest, length-append (decimal k m) ((d + 48) ∷ []))
+    (run-decimal k m p ((d + 48) ∷ rest) (omega arith) (omega arith)
+    ∙ run-step m (p + length (decimal k m)) d rest (omega arith) (omega arith)
+    ∙ (let x : m * 10 + d ≡ n = omega arith in let y : p + (length (decimal k m) + 1) ≡ suc (p + length (decimal k m)) = omega arith in rw (x, y))))
 
 -- a number's first digit: 0 only for 0 itself, alone
 pub record Headed (l : List ℕ) (n : ℕ) : Type 0 where
@@ -66,16 +67,21 @@ headed (suc k) n g =
     let r = headed k (n / 10) (omega arith) in
     pick-elim (λ (l : List ℕ). Headed l n) (ltb n 10) ((n + 48) ∷ []) (decimal (suc k) (n / 10) ++ ((n % 10 + 48) ∷ []))
     (λ e. record { h = n; tl = []; is = refl; small = ltb-true n 10 e; lone = λ z. (z, refl) })
-    (λ e. record { h = r .h; tl = r .tl ++ ((n % 10 + 48) ∷ []); is = ap (λ (l : List ℕ). l ++ ((n % 10 + 48) ∷ [])) (r .is); small = r .small
-      ; lone = λ z. absurd (omega (arith, ltb-false n 10 e, r .lone z .0)) })
+    (λ e. record {
+      h = r .h;
+      tl = r .tl ++ ((n % 10 + 48) ∷ []);
+      is = ap (λ (l : List ℕ). l ++ ((n % 10 + 48) ∷ [])) (r .is);
+      small = r .small;
+      lone = λ z. absurd (omega (arith, ltb-false n 10 e, r .lone z .0));
+    })
 
 pub judged-ok : (minus : Bool) (v q e first last t : ℕ) → q < e → last ≡ t → (first ≡ 48 → (e ≡ q + 1) × (minus ≡ false)) → judged minus v q e first last t ≡ Number (signedOf minus v) (e + 1)
 unfolding judged
 judged-ok minus v q e first last t h1 h2 h3 =
     simp (lt-leb e q h1, eq-eqb last t h2)
     (pick-elim (λ (x : Field). x ≡ Number (signedOf minus v) (e + 1)) (eqb first 48) _ _
-      (λ b. let f = h3 (eqb-true first 48 b) in simp (eq-eqb e (q + 1) (f .0), f .1))
-      (λ b. refl))
+    (λ b. let f = h3 (eqb-true first 48 b) in simp (eq-eqb e (q + 1) (f .0), f .1))
+    (λ b. refl))
 
 -- what an accepted run is
 pub record Judged (minus : Bool) (v q e first last t : ℕ) (w : ℤ) (n : ℕ) : Type 0 where
@@ -93,13 +99,13 @@ unfolding judged
 judged-inv minus v q e first last t w n =
     pick-elim P (leb e q) _ _ (λ b. clash)
     (λ b1. pick-elim P (eqb last t) _ _
-      (λ b2. pick-elim P (eqb first 48) _ _
-        (λ b3. pick-elim P (eqb e (q + 1)) _ _
-          (λ b4. pick-elim P minus _ _ (λ b. clash)
-            (λ b5 p. record { some = leb-false e q b1; ends = eqb-true last t b2; zero = λ z. (eqb-true e (q + 1) b4, b5); value = cc; next = cc }))
-          (λ b. clash))
-        (λ b3 p. record { some = leb-false e q b1; ends = eqb-true last t b2; zero = λ z. absurd (eqb-false first 48 b3 z); value = cc; next = cc }))
-      (λ b. clash))
+    (λ b2. pick-elim P (eqb first 48) _ _
+    (λ b3. pick-elim P (eqb e (q + 1)) _ _
+    (λ b4. pick-elim P minus _ _ (λ b. clash)
+    (λ b5 p. record { some = leb-false e q b1; ends = eqb-true last t b2; zero = λ z. (eqb-true e (q + 1) b4, b5); value = cc; next = cc }))
+    (λ b. clash))
+    (λ b3 p. record { some = leb-false e q b1; ends = eqb-true last t b2; zero = λ z. absurd (eqb-false first 48 b3 z); value = cc; next = cc }))
+    (λ b. clash))
   where
     P : Field → Type 0
     P x = x ≡ Number w n → Judged minus v q e first last t w n
@@ -121,7 +127,7 @@ module _ (s : List ℕ) (minus : Bool) (q t n : ℕ) (rest : List ℕ) where
       let last : getD s (q + m) 0 ≡ t = at-drop s q m (decimal 10 n ++ (t ∷ rest)) e ∙ getD-append-seam (decimal 10 n) t rest 0 in
       rw (e, run-decimal 10 n q (t ∷ rest) g g, run-stop n (q + m) t rest d)
       (judged-ok minus n q (q + m) (getD s q 0) (getD s (q + m) 0) t (omega arith) last
-        (λ b. let y = r .lone (omega (arith, first)) in (omega (arith, ap length (y .1)), f (y .0))))
+      (λ b. let y = r .lone (omega (arith, first)) in (omega (arith, ap length (y .1)), f (y .0))))
 
 pub field-complete : (s : List ℕ) (at t : ℕ) (v : ℤ) (rest : List ℕ) → natAbs v < 10000000000 → 10 ≤ digitOf t → drop at s ≡ numeral v ++ (t ∷ rest)
     → fieldAt s at t ≡ Number v (at + length (numeral v) + 1)
@@ -169,14 +175,14 @@ run-text a p (b ∷ bs) h g =
     let stop : decimal 10 a ++ (b ∷ bs) ≡ decimal 10 a ++ drop (p - p) (b ∷ bs) = rw x in
     pick-elim P (ltb (digitOf b) 10) _ _
     (λ e. pick-elim P (ltb a 1000000000) _ _ (λ f.
-      let d : ℕ = digitOf b in
-      let dl : d < 10 = ltb-true d 10 e in
-      let al : a < 1000000000 = ltb-true a 1000000000 f in
-      let w = run-within (a * 10 + d) (suc p) bs (omega arith) in
-      let n : run (a * 10 + d) (suc p) bs .next - p ≡ suc (run (a * 10 + d) (suc p) bs .next - suc p) = omega (arith, w .from) in
-      rw n
-      (ap (λ (y : ℕ). decimal 10 a ++ (y ∷ bs)) (undigit b dl) ∙ sym (append-assoc (decimal 10 a) ((d + 48) ∷ []) bs)
-        ∙ ap (λ (l : List ℕ). l ++ bs) (sym (decimal-snoc a d h al dl)) ∙ run-text (a * 10 + d) (suc p) bs (omega arith) (omega arith))) (λ f. stop))
+    let d : ℕ = digitOf b in
+    let dl : d < 10 = ltb-true d 10 e in
+    let al : a < 1000000000 = ltb-true a 1000000000 f in
+    let w = run-within (a * 10 + d) (suc p) bs (omega arith) in
+    let n : run (a * 10 + d) (suc p) bs .next - p ≡ suc (run (a * 10 + d) (suc p) bs .next - suc p) = omega (arith, w .from) in
+    rw n
+    (ap (λ (y : ℕ). decimal 10 a ++ (y ∷ bs)) (undigit b dl) ∙ sym (append-assoc (decimal 10 a) ((d + 48) ∷ []) bs)
+    ∙ ap (λ (l : List ℕ). l ++ bs) (sym (decimal-snoc a d h al dl)) ∙ run-text (a * 10 + d) (suc p) bs (omega arith) (omega arith))) (λ f. stop))
     (λ e. stop)
 
 -- a run that went nowhere has the value that it had
@@ -186,8 +192,8 @@ run-still a p [] = λ h. refl
 run-still a p (b ∷ bs) =
     pick-elim (λ (r : Run). r .next ≡ p → r .value ≡ a) (ltb (digitOf b) 10) _ _
     (λ e. pick-elim (λ (r : Run). r .next ≡ p → r .value ≡ a) (ltb a 1000000000) _ _
-      (λ f h. absurd (omega (arith, h, run-within (a * 10 + digitOf b) (suc p) bs (omega (arith, ltb-true (digitOf b) 10 e, ltb-true a 1000000000 f)) .from)))
-      (λ f h. refl))
+    (λ f h. absurd (omega (arith, h, run-within (a * 10 + digitOf b) (suc p) bs (omega (arith, ltb-true (digitOf b) 10 e, ltb-true a 1000000000 f)) .from)))
+    (λ f h. refl))
     (λ e h. refl)
 
 -- a run from its first digit on, which is 0 only for 0 alone
@@ -198,22 +204,22 @@ run-first p [] = λ h z. absurd (omega arith)
 run-first p (b ∷ bs) =
     pick-elim P (ltb (digitOf b) 10) _ _
     (λ e h z.
-      let d : ℕ = digitOf b in
-      let dl : d < 10 = ltb-true d 10 e in
-      let y : 0 * 10 + d ≡ d = omega arith in
-      let w = run-within (0 * 10 + d) (suc p) bs (omega arith) in
-      let n : run (0 * 10 + d) (suc p) bs .next - p ≡ suc (run (0 * 10 + d) (suc p) bs .next - suc p) = omega (arith, w .from) in
-      let R : Run = run (0 * 10 + d) (suc p) bs in
-      let go : Dec (0 < d) → decimal 10 (0 * 10 + d) ++ bs ≡ decimal 10 (R .value) ++ drop (R .next - suc p) bs =
-          elim
-          [ yes l ↦ run-text (0 * 10 + d) (suc p) bs (omega arith) (omega arith)
-          | no l ↦
-            let q : R .next ≡ suc p = omega (arith, z (undigit b dl ∙ omega arith)) in
-            let k : R .next - suc p ≡ 0 = omega arith in
-            rw (run-still (0 * 10 + d) (suc p) bs q, k)
-          ] in
-      let one : decimal 10 (0 * 10 + d) ≡ (d + 48) ∷ [] = rw y (decimal-one 10 d (λ o. omega (arith, o)) dl) in
-      rw n (ap (λ (x : ℕ). x ∷ bs) (undigit b dl) ∙ ap (λ (l : List ℕ). l ++ bs) (sym one) ∙ go (decLt 0 d)))
+    let d : ℕ = digitOf b in
+    let dl : d < 10 = ltb-true d 10 e in
+    let y : 0 * 10 + d ≡ d = omega arith in
+    let w = run-within (0 * 10 + d) (suc p) bs (omega arith) in
+    let n : run (0 * 10 + d) (suc p) bs .next - p ≡ suc (run (0 * 10 + d) (suc p) bs .next - suc p) = omega (arith, w .from) in
+    let R : Run = run (0 * 10 + d) (suc p) bs in
+    let go : Dec (0 < d) → decimal 10 (0 * 10 + d) ++ bs ≡ decimal 10 (R .value) ++ drop (R .next - suc p) bs =
+    elim [
+      | yes l ↦ run-text (0 * 10 + d) (suc p) bs (omega arith) (omega arith)
+      | no l ↦
+          let q : R .next ≡ suc p = omega (arith, z (undigit b dl ∙ omega arith)) in
+          let k : R .next - suc p ≡ 0 = omega arith in
+          rw (run-still (0 * 10 + d) (suc p) bs q, k)
+    ] in
+    let one : decimal 10 (0 * 10 + d) ≡ (d + 48) ∷ [] = rw y (decimal-one 10 d (λ o. omega (arith, o)) dl) in
+    rw n (ap (λ (x : ℕ). x ∷ bs) (undigit b dl) ∙ ap (λ (l : List ℕ). l ++ bs) (sym one) ∙ go (decLt 0 d)))
     (λ e h z. absurd (omega arith))
   where
     P : Run → Type 0
@@ -242,10 +248,14 @@ module _ (s : List ℕ) (minus : Bool) (q t : ℕ) (w : ℤ) (n : ℕ) (t0 : 0 <
       let dd : drop (e - q) (drop q s) ≡ drop e s = drop-drop (e - q) q s ∙ ap (λ (k : ℕ). drop k s) qe in
       let se : suc e ≡ n = omega (arith, j .next) in
       let dc : drop e s ≡ t ∷ drop n s = drop-cons s e 0 h ∙ rw (j .ends, se) in
-      let is : drop q s ≡ decimal 10 (R .value) ++ (t ∷ drop n s) = f ∙ ap (λ (l : List ℕ). decimal 10 (R .value) ++ l) (dd ∙ dc) in
-      ( R .value, j .value, wi .small, is, omega (arith, j .next)
-      , λ b z. let y : getD s q 0 ≡ 48 = sym first ∙ ap (λ (l : List ℕ). getD l 0 0) is ∙ rw (z, decimal-one 10 0 (λ o. omega (arith, o)) (omega arith)) in
-          let k : minus ≡ false = j .zero y .1 in absurd (let x : _≡_ {A = ℕ} 0 1 = cc in omega arith)
+      let is : drop q s ≡ decimal 10 (R .value) ++ (t ∷ drop n s) = f ∙ ap (λ (l : List ℕ). decimal 10 (R .value) ++ l) (dd ∙ dc) in (
+        R .value,
+        j .value,
+        wi .small,
+        is,
+        omega (arith, j .next),
+        λ b z. let y : getD s q 0 ≡ 48 = sym first ∙ ap (λ (l : List ℕ). getD l 0 0) is ∙ rw (z, decimal-one 10 0 (λ o. omega (arith, o)) (omega arith)) in
+            let k : minus ≡ false = j .zero y .1 in absurd (let x : _≡_ {A = ℕ} 0 1 = cc in omega arith),
       )
 
 module _ (s : List ℕ) (at t : ℕ) (w : ℤ) (n : ℕ) where
@@ -260,10 +270,10 @@ unfolding fieldAt numeral
 field-sound s at t w n t0 inn =
     pick-elim (λ (x : Field). x ≡ Number w n → Stands s at t w n) (eqb (getD s at 0) 45) _ _
     (λ e p.
-      let b = eqb-true (getD s at 0) 45 e in
-      let h = inside s at 44 b in
-      let (v, a, l, d, u, z) = after-sign-inv s true (at + 1) t w n t0 (omega arith) p in
-      stands-minus s at t w n v a l d u (z refl) b h)
+    let b = eqb-true (getD s at 0) 45 e in
+    let h = inside s at 44 b in
+    let (v, a, l, d, u, z) = after-sign-inv s true (at + 1) t w n t0 (omega arith) p in
+    stands-minus s at t w n v a l d u (z refl) b h)
     (λ e p.
-      let (v, a, l, d, u, z) = after-sign-inv s false at t w n t0 inn p in
-      rw a (record { small = l; is = d; upto = u }))
+    let (v, a, l, d, u, z) = after-sign-inv s false at t w n t0 inn p in
+    rw a (record { small = l; is = d; upto = u }))

@@ -1,23 +1,22 @@
 -- What a schedule that passes 3, 4 and 5 holds, line by line and then as one record (`passed`), which evaluation cites.
-use mathlib.Core.Path.{_≡_, refl, sym, ap, _∙_}
+use mathlib.Core.Path.{_≡_, refl, _∙_}
 use mathlib.Core.Bool.{Bool, true, false}
-use mathlib.Core.List.{List, [], _∷_, _++_}
+use mathlib.Core.List.{[], _∷_}
 use Prim.Native.Nat.{ℕ, zero, suc, _+_, _-_, _≤_, _<_}
 use native.Mathlib.Omega.{arith}
 use native.Mathlib.Decide.{ℕ-discrete, decLe}
-use borrow.Author.Tests.{eq-eqb, ne-eqb, eqb-true, eqb-false}
+use borrow.Author.Tests.{eq-eqb, eqb-true, eqb-false}
 use lib.Dec.{eqb}
-use lib.ListN.{length}
 use lib.IntN.{ℤ, pos, negsuc, natAbs}
-use Rattle.sheet.specs.Number.{pick}
-use Rattle.sheet.specs.Limits.{maxInputs, maxSteps, endLimit, lastBinary, lastCode}
+use Rattle.sheet.specs.Choice.{pick}
+use Rattle.sheet.specs.Limits.{maxInputs, maxSteps, lastBinary, lastCode}
 use Rattle.sheet.specs.Causes.{accepted}
 use Rattle.sheet.specs.Lines.{natural, lineOf, lineAt, linesLeft, numbers, fault, endsAt, stepAt, countsPass, endsPass, stepPasses}
 use Rattle.sheet.specs.Writing.{faultAt, testLines, testOf}
 use Rattle.sheet.specs.declared.Schedule.{Schedule}
 use Rattle.sheet.specs.declared.Refusal.{Refusal}
 use Rattle.sheet.specs.declared.Line.{Line}
-use Rattle.sheet.specs.declared.Line.the-variants.{CountNames, CountLine, EndNames, EndLine, StepNames, StepLine}
+use Rattle.sheet.specs.declared.Line.the-variants.{CountLine, EndLine, StepLine}
 use Rattle.sheet.proofs.Choice.{pick-elim}
 use Rattle.sheet.proofs.FieldLine.{TenDigits, none, one}
 use Rattle.sheet.proofs.LineKinds.{Kind, end-names, end-line, step-names, step-line, kind, Shape, Room, is-end-line, is-step-line}
@@ -96,10 +95,10 @@ ten-steps r code first second value p h =
     let v : natAbs value < 10000000000 = elim (decLe k 1) [ yes a ↦ omega (arith, p .value-in a) | no a ↦ zero-small value (p .value-zero (omega arith)) ] in
     let f : natAbs first < 10000000000 = elim (decLe k 1) [ yes a ↦ zero-small first (p .first-zero a) | no a ↦ small 1 r first (p .first-row (omega arith)) h ] in
     let s : natAbs second < 10000000000 =
-      elim (decLe k 1)
-      [ yes a ↦ zero-small second (p .second-zero a)
+    elim (decLe k 1) [
+      | yes a ↦ zero-small second (p .second-zero a)
       | no a ↦ elim (decLe k lastBinary) [ yes b ↦ small 1 r second (p .second-row (omega arith) b) h | no b ↦ zero-small second (p .second-zero-last (omega arith)) ]
-      ] in
+    ] in
     one (small 1 lastCode code (p .code-in) (omega arith)) (one f (one s (one v none)))
 
 pub ten-digits : (c : Schedule) (l : Line) (n : ℕ) → Kind (natural (c .inputs)) n l → n < 10000000000 → fault l (numbers c l) ≡ 0 → TenDigits (numbers c l)
@@ -144,17 +143,17 @@ passed c z =
     let t = both-pass c z in
     let f = test-zero (linesLeft c) 3 c (t .1) in
     let n : ℕ = natural (c .inputs) in
-    record
-    { counts = counts-first c (t .0)
-    ; ends = λ i h.
-        let k : 4 + i - 4 ≡ i = omega arith in
-        let l : lineAt c (4 + i) ≡ EndLine i = is-end-line n (4 + i) (omega arith) (omega arith) ∙ rw k in
-        ends-line c i (rw l at (f (4 + i) (omega arith) (omega arith)))
-    ; steps = λ j h.
-        let a : n + j + 5 - 5 - n ≡ j = omega arith in
-        let b : n + j + 5 - 5 ≡ n + j = omega arith in
-        let l : lineAt c (n + j + 5) ≡ StepLine j (n + j) = is-step-line n (n + j + 5) (omega arith) ∙ rw (a, b) in
-        step-line-passed c j (n + j) (rw l at (f (n + j + 5) (omega arith) (omega arith)))
+    record {
+      counts = counts-first c (t .0);
+      ends = λ i h.
+          let k : 4 + i - 4 ≡ i = omega arith in
+          let l : lineAt c (4 + i) ≡ EndLine i = is-end-line n (4 + i) (omega arith) (omega arith) ∙ rw k in
+          ends-line c i (rw l at (f (4 + i) (omega arith) (omega arith)));
+      steps = λ j h.
+          let a : n + j + 5 - 5 - n ≡ j = omega arith in
+          let b : n + j + 5 - 5 ≡ n + j = omega arith in
+          let l : lineAt c (n + j + 5) ≡ StepLine j (n + j) = is-step-line n (n + j + 5) (omega arith) ∙ rw (a, b) in
+          step-line-passed c j (n + j) (rw l at (f (n + j + 5) (omega arith) (omega arith)));
     }
 
 -- a test that tells no number tells no place

@@ -1,19 +1,15 @@
 -- What a passed test 3, 4 or 5 says of the numbers, in natural numbers: for the reader's bounds, for the sheet's length, and for evaluation.
 use mathlib.Core.Path.{_≡_, refl, sym, ap, _∙_}
 use mathlib.Core.Bool.{Bool, true, false}
-use Prim.Native.Nat.{ℕ, zero, suc, _+_, _-_, _≤_, _<_}
+use Prim.Native.Nat.{ℕ, _-_, _≤_, _<_}
 use native.Mathlib.Omega.{arith}
-use borrow.Author.Tests.{leb-true, leb-false, eqb-true, eqb-false, le-leb, lt-leb}
-use lib.Dec.{leb, eqb}
+use borrow.Author.Tests.{leb-true, le-leb, lt-leb}
+use lib.Dec.{leb}
 use lib.Signed.{leZ}
 use lib.IntN.{ℤ, pos, negsuc, natAbs}
-use Rattle.sheet.specs.Number.{pick}
+use Rattle.sheet.specs.Choice.{pick}
 use Rattle.sheet.specs.Limits.{maxInputs, maxSteps, endLimit, lastBinary, lastCode}
 use Rattle.sheet.specs.Lines.{natural, between, isZero, withinLimit, namesRow, countsPass, endsPass, stepPasses, rowPasses, valuePasses}
-use Rattle.sheet.specs.declared.End.{End}
-use Rattle.sheet.specs.declared.Step.{Step}
-use Rattle.sheet.specs.declared.Schedule.{Schedule}
-use Rattle.sheet.proofs.Choice.{pick-elim}
 
 never : {X : Type 0} → _≡_ {A = Bool} false true → X
 never e = absurd (let y : _≡_ {A = ℕ} 0 1 = cc in omega arith)
@@ -56,10 +52,10 @@ counts-passed inputs squares steps e =
     let t = both (between (pos 1) inputs (pos maxInputs)) _ e in
     let u = both (between (pos 0) squares inputs) _ (t .1) in
     let n = between-natural 1 maxInputs inputs (t .0) in
-    record
-    { inputs-in = n
-    ; squares-in = between-natural 0 (natural inputs) squares (rw (n .is) at (u .0))
-    ; steps-in = between-natural 1 maxSteps steps (u .1)
+    record {
+      inputs-in = n;
+      squares-in = between-natural 0 (natural inputs) squares (rw (n .is) at (u .0));
+      steps-in = between-natural 1 maxSteps steps (u .1);
     }
 
 -- 4: "Both ends lie from -268,435,456 to 268,435,456, and low is at most high."
@@ -101,16 +97,16 @@ step-passed-natural : (earlier k : ℕ) (first second value : ℤ)
     → rowPasses (pick (leb 2 k) (leb k lastBinary) false) earlier second ≡ true
     → valuePasses (leb k 1) value ≡ true
     → StepPassed earlier (pos k) first second value
-step-passed-natural r k first second value a b p q v = record
-    { code-in = record { is = refl; from = a; to = b }
-    ; first-row = λ h. row-used r first (leb 2 k) p (le-leb 2 k h)
-    ; first-zero = λ h. row-unused r first (leb 2 k) p (lt-leb 2 k (omega arith))
-    ; second-row = λ h g. row-used r second (pick (leb 2 k) (leb k lastBinary) false) q (simp (le-leb 2 k h) (le-leb k lastBinary g))
-    ; second-zero = λ h. row-unused r second (pick (leb 2 k) (leb k lastBinary) false) q (simp (lt-leb 2 k (omega arith)))
-    ; second-zero-last = λ h. row-unused r second (pick (leb 2 k) (leb k lastBinary) false) q (simp (le-leb 2 k (omega arith), lt-leb k lastBinary h))
-    ; value-in = λ h. within-limit value (rw (le-leb k 1 h) at v)
-    ; value-zero = λ h. zero-is value (rw (lt-leb k 1 (omega arith)) at v)
-    }
+step-passed-natural r k first second value a b p q v = record {
+  code-in = record { is = refl; from = a; to = b };
+  first-row = λ h. row-used r first (leb 2 k) p (le-leb 2 k h);
+  first-zero = λ h. row-unused r first (leb 2 k) p (lt-leb 2 k (omega arith));
+  second-row = λ h g. row-used r second (pick (leb 2 k) (leb k lastBinary) false) q (simp (le-leb 2 k h) (le-leb k lastBinary g));
+  second-zero = λ h. row-unused r second (pick (leb 2 k) (leb k lastBinary) false) q (simp (lt-leb 2 k (omega arith)));
+  second-zero-last = λ h. row-unused r second (pick (leb 2 k) (leb k lastBinary) false) q (simp (le-leb 2 k (omega arith), lt-leb k lastBinary h));
+  value-in = λ h. within-limit value (rw (le-leb k 1 h) at v);
+  value-zero = λ h. zero-is value (rw (lt-leb k 1 (omega arith)) at v);
+}
 
 pub step-passed : (earlier : ℕ) (code first second value : ℤ) → stepPasses earlier code first second value ≡ true → StepPassed earlier code first second value
 unfolding stepPasses

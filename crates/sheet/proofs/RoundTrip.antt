@@ -4,17 +4,16 @@
 --   3. a schedule written and read again is the same schedule (`write-then-read`).
 -- `FirstFault.antt` has the fourth: the place of a refusal is the first faulty line.
 use mathlib.Core.Path.{_≡_, refl, sym, ap, _∙_}
-use mathlib.Core.List.{List, [], _∷_, _++_, append-assoc, append-nil}
-use Prim.Native.Nat.{ℕ, zero, suc, _+_, _-_, _≤_, _<_}
+use mathlib.Core.List.{List, [], _++_, append-nil}
+use Prim.Native.Nat.{ℕ, _+_, _-_, _≤_}
 use native.Mathlib.Omega.{arith}
-use borrow.Author.Tests.{eq-eqb, eqb-true, eqb-false, ltb-true, ltb-false, le-ltb}
+use borrow.Author.Tests.{eq-eqb, eqb-true, eqb-false, ltb-false, le-ltb}
 use lib.Dec.{eqb, ltb}
 use lib.ListN.{length, drop, take, length-append, drop-of-length-le}
 use lib.Seq.{sets}
-use lib.IntN.{ℤ, pos}
 use Rattle.sheet.specs.Limits.{maxBytes}
 use Rattle.sheet.specs.Causes.{accepted}
-use Rattle.sheet.specs.Lines.{natural, zeroEnd, zeroStep, endsAt, stepAt, zeroSchedule, lineOf, lineAt, linesLeft, numbers, fault}
+use Rattle.sheet.specs.Lines.{natural, zeroEnd, zeroStep, endsAt, stepAt, lineOf, lineAt, linesLeft, numbers, fault}
 use Rattle.sheet.specs.Reading.{partRead, readLines, readSheet, readOf, answer}
 use Rattle.sheet.specs.Writing.{faultAt, testLines, testOf, linesText, sheetText, writeOf, leftOf}
 use Rattle.sheet.specs.Same.{Same, trimmed}
@@ -22,16 +21,15 @@ use Rattle.sheet.specs.declared.Schedule.{Schedule}
 use Rattle.sheet.specs.declared.Refusal.{Refusal}
 use Rattle.sheet.specs.declared.ReadAnswer.{ReadAnswer}
 use Rattle.sheet.specs.declared.WriteAnswer.{WriteAnswer}
-use Rattle.sheet.specs.declared.Line.the-variants.{CountNames, CountLine}
+use Rattle.sheet.specs.declared.Line.the-variants.{CountLine}
 use Rattle.sheet.specs.declared.reader.Part.{Part}
 use Rattle.sheet.proofs.Choice.{pick-elim}
-use Rattle.sheet.proofs.FieldLine.{behind, TenDigits}
-use Rattle.sheet.proofs.LineKinds.{kind, SameCounts}
+use Rattle.sheet.proofs.FieldLine.{behind}
+use Rattle.sheet.proofs.LineKinds.{kind}
 use Rattle.sheet.proofs.LineRead.{firstPart, secondPart, sheet-ends}
-use Rattle.sheet.proofs.SheetRead.{LinesAre, lines-sound, lines-complete, Within, copied}
-use Rattle.sheet.proofs.CountsRead.{FirstAre, first-sound, first-complete, same-first, counted}
-use Rattle.sheet.proofs.Passing.{CountsPassed}
-use Rattle.sheet.proofs.Passed.{Passed, passed, both-pass, test-zero, test-accepts, test-accepted, within-counts, rooms-counted, lines-left-small, ten-digits}
+use Rattle.sheet.proofs.SheetRead.{LinesAre, lines-sound, lines-complete, copied}
+use Rattle.sheet.proofs.CountsRead.{first-sound, first-complete, same-first, counted}
+use Rattle.sheet.proofs.Passed.{passed, both-pass, test-zero, test-accepts, test-accepted, within-counts, rooms-counted, lines-left-small, ten-digits}
 use Rattle.sheet.proofs.SheetLength.{sheet-split, sheet-short}
 use Rattle.sheet.proofs.SheetWrite.{write-done, take-sets}
 use Rattle.sheet.proofs.Trimmed.{copied-trimmed, counted-same, same-trimmed, ends-beyond, steps-beyond}
@@ -55,9 +53,9 @@ sheet-of s c next p first passes r e =
     let (a, b, n) = same-first (r .counts) in
     let z : drop (p .next) s ≡ [] = drop-of-length-le s {i = p .next} (omega arith) in
     let t : testLines 2 1 d ≡ accepted = first-passes d (rw n passes) in
-    record
-    { text = first ∙ rw (sheet-split d, a, b) (ap (λ (l : List ℕ). linesText 2 1 c ++ l) (r .is ∙ rw (z, append-nil (linesText (linesLeft c) 3 d))))
-    ; passes = rw (t, b) (test-accepts (linesLeft c) 3 d (r .passes))
+    record {
+      text = first ∙ rw (sheet-split d, a, b) (ap (λ (l : List ℕ). linesText 2 1 c ++ l) (r .is ∙ rw (z, append-nil (linesText (linesLeft c) 3 d))));
+      passes = rw (t, b) (test-accepts (linesLeft c) 3 d (r .passes));
     }
 
 sheet-sound : (s : List ℕ) → readSheet s .refusal .number ≡ 0 → SheetOf s (readSheet s .schedule)
@@ -68,13 +66,13 @@ sheet-sound s =
     let P : Part → Type 0 = λ x. x .refusal .number ≡ 0 → SheetOf s (x .schedule) in
     pick-elim P (eqb (p .refusal .number) 0) _ _
     (λ a. pick-elim P (eqb (q .refusal .number) 0) _ _
-      (λ b. pick-elim P (eqb (q .next) (length s)) _ _
-        (λ e z.
-          let f = first-sound s 0 (omega arith) (eqb-true (p .refusal .number) 0 a) in
-          let r = lines-sound (linesLeft (p .schedule)) 3 (p .schedule) s (p .next) (omega arith) (within-counts (p .schedule) (f .shape) (f .counts)) (f .upto) (eqb-true (q .refusal .number) 0 b) in
-          sheet-of s (p .schedule) (p .next) q (f .is) (f .passes) r (eqb-true (q .next) (length s) e))
-        (λ e z. absurd (omega (arith, z))))
-      (λ b z. absurd (eqb-false (q .refusal .number) 0 b z)))
+    (λ b. pick-elim P (eqb (q .next) (length s)) _ _
+    (λ e z.
+    let f = first-sound s 0 (omega arith) (eqb-true (p .refusal .number) 0 a) in
+    let r = lines-sound (linesLeft (p .schedule)) 3 (p .schedule) s (p .next) (omega arith) (within-counts (p .schedule) (f .shape) (f .counts)) (f .upto) (eqb-true (q .refusal .number) 0 b) in
+    sheet-of s (p .schedule) (p .next) q (f .is) (f .passes) r (eqb-true (q .next) (length s) e))
+    (λ e z. absurd (omega (arith, z))))
+    (λ b z. absurd (eqb-false (q .refusal .number) 0 b z)))
     (λ a z. absurd (eqb-false (p .refusal .number) 0 a z))
 
 -- What is accepted is the text of a schedule that passes: the one that was read.
@@ -105,7 +103,7 @@ sheet-complete c z =
     let first : firstPart s ≡ partRead (0 + length A) d = first-complete c s 0 B p (test-zero 2 1 c (t .0) 2 (omega arith) (omega arith)) split in
     let rest : drop (0 + length A) s ≡ B ++ [] = behind s 0 A B split ∙ sym (append-nil B) in
     let lines : readLines (linesLeft c) 3 d s (0 + length A) ≡ partRead (0 + length A + length B) (copied (linesLeft c) 3 c d) =
-      lines-complete (linesLeft c) 3 c d s (0 + length A) [] (omega arith) h (λ m a b. (f m a b, ten-digits c (lineAt c m) m (kind (natural (c .inputs)) m a) (omega arith) (f m a b))) rest in
+    lines-complete (linesLeft c) 3 c d s (0 + length A) [] (omega arith) h (λ m a b. (f m a b, ten-digits c (lineAt c m) m (kind (natural (c .inputs)) m a) (omega arith) (f m a b))) rest in
     let second : secondPart s ≡ partRead (0 + length A + length B) (trimmed c) = rw (first, same-first h .1) (lines ∙ rw (copied-trimmed c (rooms-counted c p))) in
     let long : 0 + length A + length B ≡ length s = omega (arith, ap length split, length-append A B) in
     sheet-ends s (ap (λ (q : Part). q .refusal .number) first) (ap (λ (q : Part). q .refusal .number) second) (ap (λ (q : Part). q .next) second ∙ long) ∙ rw (second, long)
@@ -147,8 +145,8 @@ unfolding writeOf
 written c room =
     pick-elim P (eqb (testOf c .number) 0) _ _
     (λ a. pick-elim P (ltb room (length (sheetText c))) _ _
-      (λ b e. absurd (let z : _≡_ {A = ℕ} 8 0 = ap (λ (r : Refusal). r .number) e in omega arith))
-      (λ b e. (eqb-true (testOf c .number) 0 a, ltb-false room (length (sheetText c)) b)))
+    (λ b e. absurd (let z : _≡_ {A = ℕ} 8 0 = ap (λ (r : Refusal). r .number) e in omega arith))
+    (λ b e. (eqb-true (testOf c .number) 0 a, ltb-false room (length (sheetText c)) b)))
     (λ a e. absurd (eqb-false (testOf c .number) 0 a (ap (λ (r : Refusal). r .number) e)))
   where
     P : WriteAnswer → Type 0
@@ -163,11 +161,11 @@ write-then-read c out e =
     let w = write-done c out (i .0) (i .1) in
     let bytes : take (writeOf c (length out) .length) (leftOf c out) ≡ sheetText c = rw (← w .0, ← w .1) (take-sets (sheetText c) out (i .1)) in
     let r = read-complete c (test-accepted c (i .0)) in
-    rw (bytes, r)
-    ( refl
-    , record
-      { same = same-trimmed c (p .inputs-in .to) (p .steps-in .to)
-      ; ends-zero = ends-beyond c
-      ; steps-zero = steps-beyond c
-      }
+    rw (bytes, r) (
+      refl,
+      record {
+        same = same-trimmed c (p .inputs-in .to) (p .steps-in .to);
+        ends-zero = ends-beyond c;
+        steps-zero = steps-beyond c;
+      },
     )

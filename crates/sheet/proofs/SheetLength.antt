@@ -1,13 +1,13 @@
 -- The sheet of a schedule that passes has at most 1,024 bytes: each kind of line has a greatest width, summed over the lines.
-use mathlib.Core.Path.{_≡_, refl, sym, ap, _∙_}
-use mathlib.Core.List.{List, [], _∷_, _++_, append-assoc, append-nil}
+use mathlib.Core.Path.{_≡_, sym}
+use mathlib.Core.List.{[], _∷_, _++_, append-assoc, append-nil}
 use Prim.Native.Nat.{ℕ, zero, suc, _+_, _-_, _*_, _^_, _≤_, _<_}
 use native.Mathlib.Omega.{arith}
 use native.Mathlib.Decide.{decLe}
 use borrow.Author.Tests.{le-leb, lt-leb}
 use lib.Dec.{leb}
 use lib.ListN.{length, length-append}
-use Rattle.sheet.specs.Number.{pick}
+use Rattle.sheet.specs.Choice.{pick}
 use lib.IntN.{ℤ, pos, negsuc, natAbs}
 use Rattle.sheet.specs.Limits.{maxInputs, maxSteps, maxBytes, endLimit, lastBinary, lastCode}
 use Rattle.sheet.specs.Text.{numeral, decimal, line}
@@ -15,11 +15,10 @@ use Rattle.sheet.specs.Lines.{natural, lineOf, lineAt, linesLeft, lineTe
 use Rattle.sheet.specs.Writing.{faultAt, textAt, linesText, sheetText, testOf}
 use Rattle.sheet.specs.declared.Schedule.{Schedule}
 use Rattle.sheet.specs.declared.Line.{Line}
-use Rattle.sheet.specs.declared.Line.the-variants.{CountNames, CountLine, EndNames, EndLine, StepNames, StepLine}
 use Rattle.sheet.proofs.Decimal.{decimal-width, numeral-width}
 use Rattle.sheet.proofs.LineKinds.{Kind, end-names, end-line, step-names, step-line, kind}
 use Rattle.sheet.proofs.Passing.{Natural, CountsPassed, StepPassed}
-use Rattle.sheet.proofs.Passed.{Passed, passed, both-pass, test-zero, ends-line, step-line-passed}
+use Rattle.sheet.proofs.Passed.{passed, both-pass, test-zero, ends-line, step-line-passed}
 
 -- a natural number below 10 ^ d has d digits at the most
 natural-width : (d a b : ℕ) (z : ℤ) → Natural a b z → b < 10 ^ suc d → length (numeral z) ≤ suc d
@@ -54,13 +53,13 @@ step-wide r code first second value p h =
     let v : length (numeral value) ≤ 10 = elim (decLe k 1) [ yes a ↦ limited-width value (p .value-in a) | no a ↦ omega (arith, zero-width value (p .value-zero (omega arith))) ] in
     let f : length (numeral first) ≤ 2 = elim (decLe k 1) [ yes a ↦ omega (arith, zero-width first (p .first-zero a)) | no a ↦ natural-width 1 1 r first (p .first-row (omega arith)) (omega arith) ] in
     let s : length (numeral second) ≤ 2 =
-      elim (decLe k 1)
-      [ yes a ↦ omega (arith, zero-width second (p .second-zero a))
-      | no a ↦ elim (decLe k lastBinary)
-        [ yes b ↦ natural-width 1 1 r second (p .second-row (omega arith) b) (omega arith)
+    elim (decLe k 1) [
+      | yes a ↦ omega (arith, zero-width second (p .second-zero a))
+      | no a ↦ elim (decLe k lastBinary) [
+        | yes b ↦ natural-width 1 1 r second (p .second-row (omega arith) b) (omega arith)
         | no b ↦ omega (arith, zero-width second (p .second-zero-last (omega arith)))
-        ]
-      ] in
+      ]
+    ] in
     omega (arith, four-wide code first second value, natural-width 0 1 lastCode code (p .code-in) (omega arith))
 
 -- what the lines from `n` on may have beyond 19 bytes each: 3 for each line up to the last ends, 5 for the names of the steps
@@ -104,10 +103,10 @@ unfolding linesText textAt faultAt
 lines-wide zero n c g h f = omega arith
 lines-wide (suc k) n c g h f =
     rw (length-append (lineText (lineAt c n) (numbers c (lineAt c n))) (linesText k (suc n) c))
-    (omega
-    ( arith
-    , line-wide c (lineAt c n) n (kind (natural (c .inputs)) n g) (omega arith) (f n (omega arith) (omega arith))
-    , lines-wide k (suc n) c (omega arith) (omega arith) (λ m a b. f m (omega arith) (omega arith))
+    (omega (
+      arith,
+      line-wide c (lineAt c n) n (kind (natural (c .inputs)) n g) (omega arith) (f n (omega arith) (omega arith)),
+      lines-wide k (suc n) c (omega arith) (omega arith) (λ m a b. f m (omega arith) (omega arith)),
     ))
 
 -- the first two lines
@@ -115,12 +114,12 @@ first-wide : (c : Schedule) → CountsPassed (c .inputs) (c .squares) (c .steps)
 unfolding linesText textAt lineOf lineText numbers
 first-wide c p =
     simp length-append
-    (omega
-    ( arith
-    , three-wide (c .inputs) (c .squares) (c .steps)
-    , natural-width 0 1 maxInputs (c .inputs) (p .inputs-in) (omega arith)
-    , natural-width 0 0 (natural (c .inputs)) (c .squares) (p .squares-in) (omega (arith, p .inputs-in .to))
-    , natural-width 1 1 maxSteps (c .steps) (p .steps-in) (omega arith)
+    (omega (
+      arith,
+      three-wide (c .inputs) (c .squares) (c .steps),
+      natural-width 0 1 maxInputs (c .inputs) (p .inputs-in) (omega arith),
+      natural-width 0 0 (natural (c .inputs)) (c .squares) (p .squares-in) (omega (arith, p .inputs-in .to)),
+      natural-width 1 1 maxSteps (c .steps) (p .steps-in) (omega arith),
     ))
 
 -- a sheet's text begins with its first two lines

@@ -1,13 +1,12 @@
 -- The test and the text of several lines, one line more for the loops.
-use mathlib.Core.Path.{_≡_, refl, sym, ap, _∙_}
-use mathlib.Core.List.{List, [], _∷_, _++_, append-assoc, append-nil}
+use mathlib.Core.Path.{_≡_, refl, ap, _∙_}
+use mathlib.Core.List.{List, _++_, append-assoc, append-nil}
 use Prim.Native.Nat.{ℕ, zero, suc, _+_, _-_, _≤_, _<_}
 use native.Mathlib.Nat.{add-zero, add-suc, suc-add}
 use native.Mathlib.Numerals.{add-one}
 use native.Mathlib.Omega.{arith}
 use borrow.Author.Tests.{eq-eqb, ne-eqb}
 use lib.ListN.{length, length-append}
-use lib.IntN.{ℤ}
 use Rattle.sheet.specs.Causes.{refusal, accepted}
 use Rattle.sheet.specs.Lines.{numbers, fault}
 use Rattle.sheet.specs.Reading.{padded}
@@ -65,9 +64,9 @@ text-longer (suc k) (suc m) n c h =
 pub text-room : (c : Schedule) (count i : ℕ) → i < count → length (linesText i 1 c) + length (textAt c (i + 1)) ≤ length (linesText count 1 c)
 text-room c count i h =
     let e : 1 + i ≡ i + 1 = omega arith in
-    omega
-    ( arith
-    , ap length (rw e at (text-more i 1 c))
-    , length-append (linesText i 1 c) (textAt c (i + 1))
-    , text-longer (i + 1) count 1 c (omega arith)
+    omega (
+      arith,
+      ap length (rw e at (text-more i 1 c)),
+      length-append (linesText i 1 c) (textAt c (i + 1)),
+      text-longer (i + 1) count 1 c (omega arith),
     )

@@ -1,18 +1,16 @@
 -- What writing answers and leaves, an equation for each way through the writer's code.
-use mathlib.Core.Path.{_≡_, refl, sym, ap, _∙_}
+use mathlib.Core.Path.{_≡_, sym, _∙_}
 use mathlib.Core.List.{List}
-use Prim.Native.Nat.{ℕ, _≤_, _<_}
+use Prim.Native.Nat.{ℕ, _≤_, _<_, _+_}
 use borrow.Author.Tests.{lt-ltb, le-ltb, eq-eqb, ne-eqb}
 use lib.Dec.{eqb}
 use lib.ListN.{length, take, drop}
 use lib.Seq.{sets, sets-eq, take-append-seam}
 use native.Mathlib.Omega.{arith}
-use Prim.Native.Nat.{_+_}
-use Rattle.sheet.specs.Number.{pick}
+use Rattle.sheet.specs.Choice.{pick}
 use Rattle.sheet.specs.Causes.{accepted, bytesTooShort}
 use Rattle.sheet.specs.Writing.{testOf, sheetText, notWritten, writeOf, leftOf}
 use Rattle.sheet.specs.declared.Schedule.{Schedule}
-use Rattle.sheet.specs.declared.WriteAnswer.{WriteAnswer}
 
 module _ (c : Schedule) (out : List ℕ) where
   -- the lent bytes go by the number that is answered

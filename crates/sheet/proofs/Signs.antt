@@ -1,11 +1,11 @@
 -- What casts, 0 - v, -1 - v and the test v < 0 give of a signed number: each by the number's two constructors.
-use mathlib.Core.Path.{_≡_, refl, sym, ap, _∙_}
-use mathlib.Core.Bool.{Bool, true, false}
-use Prim.Native.Nat.{ℕ, zero, suc, _+_, _-_, _<_, _≤_, _^_}
+use mathlib.Core.Path.{_≡_, refl, ap, _∙_}
+use mathlib.Core.Bool.{true, false}
+use Prim.Native.Nat.{ℕ, zero, suc, _+_, _-_, _<_, _^_}
 use native.Mathlib.Omega.{arith}
-use lib.IntN.{ℤ, pos, negsuc, negℤ, subℕ, _-ℤ_, natAbs, +ℤ-idl}
+use lib.IntN.{ℤ, pos, negsuc, negℤ, _-ℤ_, natAbs, +ℤ-idl}
 use lib.Signed.{ltZ, mag, nonNeg}
-use lib.Dec.{T, ltb}
+use lib.Dec.{T}
 use borrow.Author.Tests.{ltb-true, le-ltb}
 use mir.Syntax.{w64}
 use mir.Val.{SFits, Fits, toZ, ofZ}
@@ -54,11 +54,11 @@ mirrored-below z f e = go z f (toZ-ofZ w64 z f) (below-zero z f e)
     go (pos n) f b e = absurd (let y : _≡_ {A = ℕ} 0 1 = cc in omega arith)
     go (negsuc n) f b e =
         let i : negsuc 0 -ℤ toZ w64 (ofZ w64 (negsuc n)) ≡ pos n = rw b (mirrored n) in
-        record
-        { is = i
-        ; back = rw i (toZ-ofZ w64 (pos n) (record { sfits = f .sfits }))
-        ; small = f .sfits
-        ; size = omega arith
+        record {
+          is = i;
+          back = rw i (toZ-ofZ w64 (pos n) (record { sfits = f .sfits }));
+          small = f .sfits;
+          size = omega arith;
         }
 
 -- the cast of a number that is not below 0

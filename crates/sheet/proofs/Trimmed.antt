@@ -1,21 +1,21 @@
 -- Reading the lines of a schedule into zeros makes that schedule with zeros beyond its counts: line after line, the lists hold one entry more.
 use mathlib.Core.Path.{_≡_, refl, sym, ap, _∙_}
-use mathlib.Core.List.{List, [], _∷_}
+use mathlib.Core.List.{List, _∷_}
 use Prim.Native.Nat.{ℕ, zero, suc, _+_, _-_, _≤_, _<_}
-use native.Mathlib.Nat.{add-zero, add-suc, suc-add}
+use native.Mathlib.Nat.{add-zero}
 use native.Mathlib.Omega.{arith}
 use native.Mathlib.Decide.{decLt}
-use lib.ListN.{length, getD, set, replicate, length-replicate, getD-replicate, List·getD-eq-default}
-use lib.IntN.{ℤ, pos}
+use lib.ListN.{getD, set, replicate, length-replicate, getD-replicate, List·getD-eq-default}
+use lib.IntN.{ℤ}
 use Rattle.sheet.specs.Limits.{maxInputs, maxSteps}
-use Rattle.sheet.specs.Lines.{natural, zeroSchedule, zeroEnd, zeroStep, endsAt, stepAt, lineOf, lineAt, linesLeft, numbers, store}
+use Rattle.sheet.specs.Lines.{natural, zeroSchedule, zeroEnd, zeroStep, endsAt, stepAt, lineAt, linesLeft, numbers, store}
 use Rattle.sheet.specs.Reading.{padded}
 use Rattle.sheet.specs.Same.{Same, upTo, trimmed}
 use Rattle.sheet.specs.declared.End.{End}
 use Rattle.sheet.specs.declared.Step.{Step}
 use Rattle.sheet.specs.declared.Schedule.{Schedule}
 use Rattle.sheet.specs.declared.Line.{Line}
-use Rattle.sheet.specs.declared.Line.the-variants.{CountNames, CountLine, EndNames, EndLine, StepNames, StepLine}
+use Rattle.sheet.specs.declared.Line.the-variants.{CountLine}
 use Rattle.sheet.proofs.LineKinds.{Kind, end-names, end-line, step-names, step-line, kind, Room, SameCounts}
 use Rattle.sheet.proofs.SheetRead.{copied}
 use Rattle.sheet.proofs.CountsRead.{counted}
@@ -94,10 +94,10 @@ held-more {n} w c (end-line g l) r h =
     let k = natural (w .inputs) in
     let a : endsBefore k (suc n) ≡ suc (n - 4) = some-ends k (suc n) (omega arith) (omega arith) ∙ omega arith in
     let b : stepsBefore k (suc n) ≡ stepsBefore k n = no-steps k (suc n) (omega arith) ∙ sym (no-steps k n (omega arith)) in
-    record
-    { counts = record { inputs-same = h .counts .inputs-same; squares-same = h .counts .squares-same; steps-same = h .counts .steps-same }
-    ; ends-held = rw (a, h .ends-held, some-ends k n g (omega arith)) (set-up-to maxInputs (n - 4) (endsAt w) zeroEnd r)
-    ; step-held = rw b (h .step-held)
+    record {
+      counts = record { inputs-same = h .counts .inputs-same; squares-same = h .counts .squares-same; steps-same = h .counts .steps-same };
+      ends-held = rw (a, h .ends-held, some-ends k n g (omega arith)) (set-up-to maxInputs (n - 4) (endsAt w) zeroEnd r);
+      step-held = rw b (h .step-held);
     }
 held-more {n} w c (step-names e) r h =
     let k = natural (w .inputs) in
@@ -107,10 +107,10 @@ held-more {n} w c (step-names e) r h =
 held-more {n} w c (step-line g) r h =
     let k = natural (w .inputs) in
     let a : endsBefore k (suc n) ≡ endsBefore k n = all-ends k (suc n) (omega arith) ∙ sym (all-ends k n (omega arith)) in
-    record
-    { counts = record { inputs-same = h .counts .inputs-same; squares-same = h .counts .squares-same; steps-same = h .counts .steps-same }
-    ; ends-held = rw a (h .ends-held)
-    ; step-held = rw (one-step-more k n g, h .step-held, some-steps k n) (set-up-to maxSteps (n - 5 - k) (stepAt w) zeroStep r)
+    record {
+      counts = record { inputs-same = h .counts .inputs-same; squares-same = h .counts .squares-same; steps-same = h .counts .steps-same };
+      ends-held = rw a (h .ends-held);
+      step-held = rw (one-step-more k n g, h .step-held, some-steps k n) (set-up-to maxSteps (n - 5 - k) (stepAt w) zeroStep r);
     }
 
 held-all : (k n : ℕ) (w c : Schedule) → 3 ≤ n → ((m : ℕ) → 3 ≤ m → m < n + k → Room (lineAt w m)) → Held n w c → Held (n + k) w (copied k n w c)
@@ -119,7 +119,7 @@ held-all zero n w c g r h = rw add-zero h
 held-all (suc k) n w c g r h =
     let e : suc n + k ≡ n + suc k = omega arith in
     rw (← e) (held-all k (suc n) w (store c (lineAt w n) (padded (numbers w (lineAt w n)))) (omega arith) (λ m a b. r m a (omega arith))
-      (held-more w c (kind (natural (w .inputs)) n g) (r n g (omega arith)) h))
+    (held-more w c (kind (natural (w .inputs)) n g) (r n g (omega arith)) h))
 
 held-first : (w : Schedule) → Held 3 w (counted (numbers w CountLine))
 unfolding store numbers zeroSchedule upTo
@@ -147,13 +147,13 @@ copied-trimmed w r =
 -- "the same schedule", and zeros beyond the counts
 pub same-trimmed : (w : Schedule) → natural (w .inputs) ≤ maxInputs → natural (w .steps) ≤ maxSteps → Same w (trimmed w)
 unfolding trimmed
-same-trimmed w a b = record
-    { inputs-same = refl
-    ; squares-same = refl
-    ; steps-same = refl
-    ; ends-same = λ i h. sym (up-to-within maxInputs (natural (w .inputs)) i (endsAt w) zeroEnd a h)
-    ; step-same = λ j h. sym (up-to-within maxSteps (natural (w .steps)) j (stepAt w) zeroStep b h)
-    }
+same-trimmed w a b = record {
+  inputs-same = refl;
+  squares-same = refl;
+  steps-same = refl;
+  ends-same = λ i h. sym (up-to-within maxInputs (natural (w .inputs)) i (endsAt w) zeroEnd a h);
+  step-same = λ j h. sym (up-to-within maxSteps (natural (w .steps)) j (stepAt w) zeroStep b h);
+}
 
 pub ends-beyond : (w : Schedule) (i : ℕ) → natural (w .inputs) ≤ i → endsAt (trimmed w) i ≡ zeroEnd
 unfolding trimmed

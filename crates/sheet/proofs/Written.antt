@@ -1,7 +1,7 @@
 -- Writing one text behind another is writing the two joined.
-use mathlib.Core.Path.{_≡_, refl, sym, ap, _∙_}
+use mathlib.Core.Path.{_≡_, _∙_}
 use mathlib.Core.List.{List, [], _∷_, _++_}
-use Prim.Native.Nat.{ℕ, zero, suc, _+_, _≤_, _<_}
+use Prim.Native.Nat.{ℕ, suc, _+_}
 use native.Mathlib.Nat.{add-zero, add-suc, suc-add}
 use native.Mathlib.Omega.{arith}
 use lib.ListN.{length, set, length-append}
@@ -16,7 +16,7 @@ pub sets-snoc : (xs l : List ℕ) (i b : ℕ) → set (sets l i xs) (i + length 
 sets-snoc xs l i b = sets-append xs (b ∷ []) l i
 
 pub wrote-then : {a b c xs ys : List ℕ} {i j k : ℕ} → Wrote a b i j xs → Wrote b c j k ys → Wrote a c i k (xs ++ ys)
-wrote-then {a} {b} {c} {xs} {ys} {i} {j} {k} w v = record
-    { ends = rw length-append (omega (arith, w .ends, v .ends))
-    ; is = v .is ∙ rw (w .is, w .ends) (sets-append xs ys a i)
-    }
+wrote-then {a} {b} {c} {xs} {ys} {i} {j} {k} w v = record {
+  ends = rw length-append (omega (arith, w .ends, v .ends));
+  is = v .is ∙ rw (w .is, w .ends) (sets-append xs ys a i);
+}

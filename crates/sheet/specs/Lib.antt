@@ -1,9 +1,10 @@
+pub mod Choice
 pub mod Limits
 pub mod Causes
-pub mod Number
 pub mod Text
+pub mod Number
 pub mod Lines
 pub mod Reading
-pub mod Wrote
 pub mod Writing
+pub mod Wrote
 pub mod Same

@@ -1,12 +1,12 @@
 -- The lines of a schedule's sheet, one after another: what each holds, its text, and the test of its numbers (document 01, "The sheet").
-use mathlib.Core.Bool.{Bool, true, false}
-use mathlib.Core.List.{List, [], _∷_, _++_}
-use Prim.Native.Nat.{ℕ, zero, suc, _+_, _-_}
+use mathlib.Core.Bool.{Bool, false}
+use mathlib.Core.List.{List, [], _∷_}
+use Prim.Native.Nat.{ℕ, _+_, _-_}
 use lib.Dec.{leb, ltb, eqb}
 use lib.Signed.{leZ}
-use lib.ListN.{getD, set, replicate, length}
+use lib.ListN.{getD, set, replicate}
 use lib.IntN.{ℤ, pos, negsuc, negℤ}
-use Rattle.sheet.specs.Number.{pick}
+use Rattle.sheet.specs.Choice.{pick}
 use Rattle.sheet.specs.Text.{line}
 use Rattle.sheet.specs.Limits.{maxInputs, maxSteps, endLimit, lastBinary, lastCode}
 use Rattle.sheet.specs.Causes.{countWrong, endWrong, stepWrong}
@@ -24,13 +24,13 @@ zeroStep = record { code = pos 0; first = pos 0; second = pos 0; value = pos 0 }
 
 -- "a schedule of zeros"
 unfoldable pub zeroSchedule : Schedule
-zeroSchedule = record
-    { inputs = pos 0
-    ; squares = pos 0
-    ; steps = pos 0
-    ; ends = replicate maxInputs zeroEnd
-    ; step = replicate maxSteps zeroStep
-    }
+zeroSchedule = record {
+  inputs = pos 0;
+  squares = pos 0;
+  steps = pos 0;
+  ends = replicate maxInputs zeroEnd;
+  step = replicate maxSteps zeroStep;
+}
 
 -- A count as a natural number; one below 0 counts as 0.
 abbrev pub natural : ℤ → ℕ
@@ -166,10 +166,10 @@ unfoldable pub stepPasses : ℕ → ℤ → ℤ → ℤ → ℤ → Bool
 stepPasses earlier code first second value =
     pick (between (pos 1) code (pos lastCode))
     (pick (rowPasses (leZ (pos 2) code) earlier first)
-      (pick (rowPasses (between (pos 2) code (pos lastBinary)) earlier second)
-        (valuePasses (leZ code (pos 1)) value)
-        false)
-      false)
+    (pick (rowPasses (between (pos 2) code (pos lastBinary)) earlier second)
+    (valuePasses (leZ code (pos 1)) value)
+    false)
+    false)
     false
 
 -- The cause, 3, 4 or 5, for which the numbers of a line are refused, or 0.

@@ -5,14 +5,10 @@ use Prim.Native.Nat.{ℕ, suc, _+_, _-_, _*_}
 use lib.Dec.{leb, ltb, eqb}
 use lib.ListN.{getD, drop}
 use lib.IntN.{ℤ, pos, negℤ}
+use Rattle.sheet.specs.Choice.{pick}
 use Rattle.sheet.specs.declared.number.Run.{Run}
 use Rattle.sheet.specs.declared.number.Field.{Field}
 use Rattle.sheet.specs.declared.number.Field.the-variants.{Number, Broken}
-
--- A choice by a test.
-abbrev pub pick : {A : Type 0} → Bool → A → A → A
-pick true a b = a
-pick false a b = b
 
 -- The digit that a byte stands for, or 10.
 abbrev pub digitOf : ℕ → ℕ
@@ -40,8 +36,8 @@ judged minus v q e first last t =
     pick (leb e q) Broken
     (pick (eqb last t)
     (pick (eqb first 48)
-      (pick (eqb e (q + 1)) (pick minus Broken (Number (signedOf minus v) (e + 1))) Broken)
-      (Number (signedOf minus v) (e + 1)))
+    (pick (eqb e (q + 1)) (pick minus Broken (Number (signedOf minus v) (e + 1))) Broken)
+    (Number (signedOf minus v) (e + 1)))
     Broken)
 
 unfoldable pub afterSign : List ℕ → Bool → ℕ → ℕ → Field

@@ -6,7 +6,8 @@ use lib.Dec.{ltb, eqb}
 use lib.ListN.{length, drop, set, replicate}
 use lib.Seq.{sets}
 use lib.IntN.{ℤ, pos}
-use Rattle.sheet.specs.Number.{pick, fieldAt}
+use Rattle.sheet.specs.Choice.{pick}
+use Rattle.sheet.specs.Number.{fieldAt}
 use Rattle.sheet.specs.Text.{endByte}
 use Rattle.sheet.specs.Limits.{maxBytes}
 use Rattle.sheet.specs.Causes.{refusal, accepted, sheetTooLong, lineBroken}

@@ -23,10 +23,10 @@ upTo (suc room) (suc n) f z = f 0 ∷ upTo room n (λ i. f (suc i)) z
 
 -- "What is read holds 0 beyond its counts."
 unfoldable pub trimmed : Schedule → Schedule
-trimmed c = record
-    { inputs = c .inputs
-    ; squares = c .squares
-    ; steps = c .steps
-    ; ends = upTo maxInputs (natural (c .inputs)) (endsAt c) zeroEnd
-    ; step = upTo maxSteps (natural (c .steps)) (stepAt c) zeroStep
-    }
+trimmed c = record {
+  inputs = c .inputs;
+  squares = c .squares;
+  steps = c .steps;
+  ends = upTo maxInputs (natural (c .inputs)) (endsAt c) zeroEnd;
+  step = upTo maxSteps (natural (c .steps)) (stepAt c) zeroStep;
+}

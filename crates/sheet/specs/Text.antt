@@ -4,7 +4,7 @@ use Prim.Native.Nat.{ℕ, zero, suc, _+_, _/_, _%_}
 use lib.Dec.{ltb}
 use lib.ListN.{length}
 use lib.IntN.{ℤ, pos, negsuc}
-use Rattle.sheet.specs.Number.{pick}
+use Rattle.sheet.specs.Choice.{pick}
 
 -- `n` in decimal digits with no needless 0 in front, `k` digits at the most.
 unfoldable pub decimal : ℕ → ℕ → List ℕ

@@ -1,11 +1,11 @@
 -- The test of a handed schedule by 3, 4 and 5 "as its lines would stand", its sheet, and what writing it leaves.
-use mathlib.Core.List.{List, [], _∷_, _++_}
+use mathlib.Core.Path.{_≡_}
+use mathlib.Core.List.{List, [], _++_}
 use Prim.Native.Nat.{ℕ, zero, suc, _+_}
 use lib.Dec.{ltb, eqb}
 use lib.ListN.{length}
 use lib.Seq.{sets}
-use lib.IntN.{ℤ}
-use Rattle.sheet.specs.Number.{pick}
+use Rattle.sheet.specs.Choice.{pick}
 use Rattle.sheet.specs.Causes.{refusal, accepted, bytesTooShort}
 use Rattle.sheet.specs.Lines.{lineAt, linesLeft, numbers, fault, lineText}
 use Rattle.sheet.specs.declared.Schedule.{Schedule}
@@ -51,3 +51,8 @@ writeOf c room =
 -- What the lent bytes hold afterwards: the sheet in front, and every byte beyond it as it was; all as it was on a refusal.
 unfoldable pub leftOf : Schedule → List ℕ → List ℕ
 leftOf c out = pick (eqb (writeOf c (length out) .refusal .number) 0) (sets out 0 (sheetText c)) out
+
+-- What `write` leaves behind: its answer, and every lent byte afterwards.
+pub record Written (c : Schedule) (before after : List ℕ) (w : WriteAnswer) : Type 0 where
+  pub answers : w ≡ writeOf c (length before)
+  pub leaves : after ≡ leftOf c before

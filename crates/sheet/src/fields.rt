@@ -2,8 +2,7 @@
 use crate::number;
 use crate::number::Field;
 ghost use mathlib.Core.Path.{_≡_};
-ghost use mathlib.Core.List.{_++_, _∷_, []};
-ghost use Prim.Native.Nat.{ℕ, _+_, _-_, _≤_, _<_};
+ghost use Prim.Native.Nat.{_+_, _-_, _≤_, _<_};
 ghost use lib.ListN.{length, drop, take};
 ghost use Rattle.sheet.specs.Text.{endByte, line};
 ghost use Rattle.sheet.specs.Reading.{fieldsAt, starts};
@@ -21,11 +20,7 @@ fn end_byte(i: usize, k: usize) -> u8
     requires { ⌜ i < k ⌝ }
     ensures { λ r. ⌜ r ≡ endByte (k - (i + 1)) ⌝ }
 {
-    if k - i == 1 {
-        10
-    } else {
-        32
-    }
+    if k - i == 1 { 10 } else { 32 }
 }
 
 // The line of k numbers that starts at a position.
@@ -44,11 +39,19 @@ pub fn fields_at(s: &[u8], at: usize, k: usize) -> Fields
                 i += 1;
             }
             Field::Broken => {
-                return Fields { ok: false, next: 0, values: [0i64; 4] };
+                return Fields {
+                    ok: false,
+                    next: 0,
+                    values: [0i64; 4],
+                };
             }
         }
     }
-    Fields { ok: true, next: p, values: v }
+    Fields {
+        ok: true,
+        next: p,
+        values: v,
+    }
 }
 
 // Whether the bytes t stand at a position.

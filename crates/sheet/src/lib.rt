@@ -1,8 +1,7 @@
 // Schedule sheets (document 01, "The sheet"): reading, writing, and the tests 3, 4 and 5 of a schedule that is handed over.
 ghost use mathlib.Core.Path.{_≡_};
-ghost use lib.ListN.{length};
 ghost use Rattle.sheet.specs.Reading.{readOf};
-ghost use Rattle.sheet.specs.Writing.{testOf, writeOf, leftOf};
+ghost use Rattle.sheet.specs.Writing.{testOf, Written};
 ghost use Rattle.sheet.specs.Lines.{zeroSchedule};
 
 pub mod number; // number.rt: a number field, read and written
@@ -13,10 +12,15 @@ pub mod writer; // writer.rt: a schedule tested and written, line by line
 
 // Limits of document 01; specs/Limits.antt has the same names for definitions and laws.
 pub const MAX_INPUTS: usize = 6;
+
 pub const MAX_STEPS: usize = 24;
+
 pub const MAX_BYTES: usize = 1024;
+
 pub const END_LIMIT: i64 = 268435456;
+
 pub const LAST_BINARY: i64 = 4;
+
 pub const LAST_CODE: i64 = 5;
 
 // The ends of an input.
@@ -75,7 +79,13 @@ pub fn read(bytes: &[u8]) -> ReadAnswer
     ensures { λ r. ⌜ r ≡ readOf (now (bytes .entry)) ⌝ }
 {
     if MAX_BYTES < bytes.len() {
-        return ReadAnswer { refusal: Refusal { number: 1, place: 0 }, schedule: zero_schedule() };
+        return ReadAnswer {
+            refusal: Refusal {
+                number: 1,
+                place: 0,
+            },
+            schedule: zero_schedule(),
+        };
     }
     let p = reader::read_sheet(bytes);
     let refusal = p.refusal;
@@ -84,28 +94,34 @@ pub fn read(bytes: &[u8]) -> ReadAnswer
 }
 
 // Tests a schedule by 3, 4 and 5 as its lines would stand.
-pub fn test(c: Schedule) -> Refusal
-    ensures { λ r. ⌜ r ≡ testOf c ⌝ }
+pub fn test(schedule: Schedule) -> Refusal
+    ensures { λ r. ⌜ r ≡ testOf schedule ⌝ }
 {
-    let counts = writer::test_lines(c, 1, 2);
+    let counts = writer::test_lines(schedule, 1, 2);
     if counts.number != 0 {
         return counts;
     }
-    writer::test_lines(c, 3, lines::lines_left(c))
+    writer::test_lines(schedule, 3, lines::lines_left(schedule))
 }
 
 // Writes the sheet of a schedule into the lent bytes, where it passes and there is room.
-pub fn write(c: Schedule, out: &mut [u8]) -> WriteAnswer
-    ensures { λ r. ⌜ (r ≡ writeOf c (length (now (out .entry)))) × (now (out .exit) ≡ leftOf c (now (out .entry))) ⌝ }
+pub fn write(schedule: Schedule, out: &mut [u8]) -> WriteAnswer
+    ensures { λ r. ⌜ Written schedule (now (out .entry)) (now (out .exit)) r ⌝ }
 {
-    let refusal = test(c);
+    let refusal = test(schedule);
     if refusal.number != 0 {
         return WriteAnswer { refusal, length: 0 };
     }
     let mut sheet = [0u8; MAX_BYTES];
-    let n = writer::put_lines(&mut sheet, c, lines::lines_left(c) + 2);
+    let n = writer::put_lines(&mut sheet, schedule, lines::lines_left(schedule) + 2);
     if out.len() < n {
-        return WriteAnswer { refusal: Refusal { number: 8, place: 0 }, length: 0 };
+        return WriteAnswer {
+            refusal: Refusal {
+                number: 8,
+                place: 0,
+            },
+            length: 0,
+        };
     }
     fields::put_bytes(out, 0, &sheet[0..n]);
     WriteAnswer { refusal, length: n }
@@ -116,6 +132,17 @@ pub fn zero_schedule() -> Schedule
     ensures { λ r. ⌜ r ≡ zeroSchedule ⌝ }
 {
     let e = End { low: 0, high: 0 };
-    let t = Step { code: 0, first: 0, second: 0, value: 0 };
-    Schedule { inputs: 0, squares: 0, steps: 0, ends: [e; MAX_INPUTS], step: [t; MAX_STEPS] }
+    let t = Step {
+        code: 0,
+        first: 0,
+        second: 0,
+        value: 0,
+    };
+    Schedule {
+        inputs: 0,
+        squares: 0,
+        steps: 0,
+        ends: [e; MAX_INPUTS],
+        step: [t; MAX_STEPS],
+    }
 }

@@ -1,9 +1,15 @@
 // What each line of a sheet holds, and the tests 3, 4 and 5 of its numbers.
-use crate::{End, Line, Schedule, Step};
-use crate::{END_LIMIT, LAST_BINARY, LAST_CODE, MAX_INPUTS, MAX_STEPS};
+use crate::END_LIMIT;
+use crate::End;
+use crate::LAST_BINARY;
+use crate::LAST_CODE;
+use crate::Line;
+use crate::MAX_INPUTS;
+use crate::MAX_STEPS;
+use crate::Schedule;
+use crate::Step;
 ghost use mathlib.Core.Path.{_≡_};
-ghost use Prim.Native.Nat.{ℕ, _+_, _-_, _≤_, _<_, _^_};
-ghost use lib.IntN.{ℤ, pos};
+ghost use Prim.Native.Nat.{_+_, _-_, _<_, _^_};
 ghost use Rattle.sheet.specs.Lines as Spec;
 ghost use Rattle.sheet.specs.Reading.{padded};
 
@@ -11,11 +17,7 @@ ghost use Rattle.sheet.specs.Reading.{padded};
 pub fn natural(z: i64) -> usize
     ensures { λ r. ⌜ r ≡ Spec.natural z ⌝ }
 {
-    if z < 0 {
-        0
-    } else {
-        z as usize
-    }
+    if z < 0 { 0 } else { z as usize }
 }
 
 // What text line n, from 1, of a sheet with so many inputs is.
@@ -80,7 +82,12 @@ fn step_at(c: Schedule, i: usize) -> Step
     if i < MAX_STEPS {
         c.step[i]
     } else {
-        Step { code: 0, first: 0, second: 0, value: 0 }
+        Step {
+            code: 0,
+            first: 0,
+            second: 0,
+            value: 0,
+        }
     }
 }
 
@@ -130,19 +137,33 @@ fn with_counts(c: Schedule, v: [i64; 4]) -> Schedule
 {
     let ends = c.ends;
     let step = c.step;
-    Schedule { inputs: v[0], squares: v[1], steps: v[2], ends, step }
+    Schedule {
+        inputs: v[0],
+        squares: v[1],
+        steps: v[2],
+        ends,
+        step,
+    }
 }
 
 fn ends_of(v: [i64; 4]) -> End
     ensures { λ r. ⌜ r ≡ Spec.endsOf v ⌝ }
 {
-    End { low: v[0], high: v[1] }
+    End {
+        low: v[0],
+        high: v[1],
+    }
 }
 
 fn step_of(v: [i64; 4]) -> Step
     ensures { λ r. ⌜ r ≡ Spec.stepOf v ⌝ }
 {
-    Step { code: v[0], first: v[1], second: v[2], value: v[3] }
+    Step {
+        code: v[0],
+        first: v[1],
+        second: v[2],
+        value: v[3],
+    }
 }
 
 // The schedule with the numbers of a line put in their place.
@@ -163,11 +184,7 @@ pub fn store(c: Schedule, l: Line, v: [i64; 4]) -> Schedule
 fn between(a: i64, z: i64, b: i64) -> bool
     ensures { λ r. ⌜ r ≡ Spec.between a z b ⌝ }
 {
-    if a <= z {
-        z <= b
-    } else {
-        false
-    }
+    if a <= z { z <= b } else { false }
 }
 
 fn within_limit(z: i64) -> bool
@@ -204,11 +221,7 @@ fn ends_pass(e: End) -> bool
 fn names_row(earlier: usize, z: i64) -> bool
     ensures { λ r. ⌜ r ≡ Spec.namesRow earlier z ⌝ }
 {
-    if 1 <= z {
-        natural(z) <= earlier
-    } else {
-        false
-    }
+    if 1 <= z { natural(z) <= earlier } else { false }
 }
 
 // Whether a row field is right: it names an earlier row if it is used, and is 0 otherwise.
@@ -257,6 +270,10 @@ pub fn fault(l: Line, v: [i64; 4]) -> u64
         Line::EndNames => 0,
         Line::EndLine(_) => if ends_pass(ends_of(v)) { 0 } else { 4 },
         Line::StepNames => 0,
-        Line::StepLine(_, earlier) => if step_passes(earlier, step_of(v)) { 0 } else { 5 },
+        Line::StepLine(_, earlier) => if step_passes(earlier, step_of(v)) {
+            0
+        } else {
+            5
+        },
     }
 }

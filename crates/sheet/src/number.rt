@@ -1,7 +1,7 @@
 // A number field: an optional minus and 1 to 10 decimal digits, with the byte that ends it. Read and written.
 ghost use mathlib.Core.Path.{_≡_};
 ghost use mathlib.Core.List.{_++_, _∷_, []};
-ghost use Prim.Native.Nat.{ℕ, _+_, _≤_, _<_, _^_};
+ghost use Prim.Native.Nat.{_+_, _≤_, _<_, _^_};
 ghost use lib.ListN.{length, drop, getD};
 ghost use lib.IntN.{natAbs};
 ghost use Rattle.sheet.specs.Number.{digitOf, run, signedOf, judged, afterSign, fieldAt};
@@ -61,22 +61,14 @@ fn signed(minus: bool, v: u64) -> i64
     requires { ⌜ v < 10000000000 ⌝ }
     ensures { λ r. ⌜ r ≡ signedOf minus v ⌝ }
 {
-    if minus {
-        0 - (v as i64)
-    } else {
-        v as i64
-    }
+    if minus { 0 - (v as i64) } else { v as i64 }
 }
 
 // The byte at a position, or 0 past the end.
 fn byte(s: &[u8], i: usize) -> u8
     ensures { λ r. ⌜ r ≡ getD (now (s .entry)) i 0 ⌝ }
 {
-    if i < s.len() {
-        s[i]
-    } else {
-        0
-    }
+    if i < s.len() { s[i] } else { 0 }
 }
 
 // Whether the digits from q to e are a number ended by t, by their first byte and the byte behind them.
@@ -98,7 +90,10 @@ fn judge(minus: bool, v: u64, q: usize, e: usize, first: u8, last: u8, t: u8) ->
             return Field::Broken;
         }
     }
-    Field::Number { value: signed(minus, v), next: e + 1 }
+    Field::Number {
+        value: signed(minus, v),
+        next: e + 1,
+    }
 }
 
 // A number without its minus, from q on, ended by the byte t.
@@ -127,11 +122,7 @@ pub fn field_at(s: &[u8], at: usize, t: u8) -> Field
 fn size(v: i64) -> u64
     ensures { λ r. ⌜ r ≡ natAbs v ⌝ }
 {
-    if v < 0 {
-        (-1 - v) as u64 + 1
-    } else {
-        v as u64
-    }
+    if v < 0 { (-1 - v) as u64 + 1 } else { v as u64 }
 }
 
 // Writes v in decimal from a position on, k digits at the most, and returns the position behind them.

@@ -1,9 +1,11 @@
 // A sheet, line by line.
+use crate::Line;
+use crate::Refusal;
+use crate::Schedule;
 use crate::fields;
 use crate::lines;
-use crate::{Line, Refusal, Schedule};
 ghost use mathlib.Core.Path.{_≡_};
-ghost use Prim.Native.Nat.{ℕ, _+_, _≤_, _<_, _^_};
+ghost use Prim.Native.Nat.{_+_, _≤_, _<_, _^_};
 ghost use lib.ListN.{length, drop};
 ghost use Rattle.sheet.specs.Lines.{width, names};
 ghost use Rattle.sheet.specs.Reading.{starts, partRead, partRefused, valuesRead, fieldsAt, readAs, readLines, readSheet};
@@ -20,14 +22,25 @@ pub struct Part {
 fn refused(number: u64, place: usize) -> Part
     ensures { λ r. ⌜ r ≡ partRefused (refusal number place) ⌝ }
 {
-    Part { refusal: Refusal { number, place }, next: 0, schedule: crate::zero_schedule() }
+    Part {
+        refusal: Refusal { number, place },
+        next: 0,
+        schedule: crate::zero_schedule(),
+    }
 }
 
 // A part that was read.
 fn part_read(next: usize, c: Schedule) -> Part
     ensures { λ r. ⌜ r ≡ partRead next c ⌝ }
 {
-    Part { refusal: Refusal { number: 0, place: 0 }, next, schedule: c }
+    Part {
+        refusal: Refusal {
+            number: 0,
+            place: 0,
+        },
+        next,
+        schedule: c,
+    }
 }
 
 // Whether the names of a line of names stand at a position.

@@ -1,12 +1,13 @@
 // A schedule tested and written, line by line.
+use crate::Line;
+use crate::Refusal;
+use crate::Schedule;
 use crate::fields;
 use crate::lines;
-use crate::{Line, Refusal, Schedule};
 ghost use mathlib.Core.Path.{_≡_};
-ghost use mathlib.Core.List.{[]};
-ghost use Prim.Native.Nat.{ℕ, _+_, _≤_, _<_, _^_};
+ghost use Prim.Native.Nat.{_+_, _≤_, _<_, _^_};
 ghost use lib.ListN.{length};
-ghost use Rattle.sheet.specs.Lines.{lineText, numbers, lineAt};
+ghost use Rattle.sheet.specs.Lines.{lineText, numbers};
 ghost use Rattle.sheet.specs.Writing.{faultAt, testLines, linesText};
 ghost use Rattle.sheet.specs.Wrote.{Wrote};
 
@@ -27,11 +28,17 @@ pub fn test_lines(c: Schedule, first: usize, count: usize) -> Refusal
     while i < count {
         let number = fault_at(c, first + i);
         if number != 0 {
-            return Refusal { number, place: first + i };
+            return Refusal {
+                number,
+                place: first + i,
+            };
         }
         i += 1;
     }
-    Refusal { number: 0, place: 0 }
+    Refusal {
+        number: 0,
+        place: 0,
+    }
 }
 
 // Writes a line of the schedule's sheet.

@@ -1,25 +1,13 @@
 -- `read` tests the length, then reads the sheet.
-use borrow.Author.Needs.{needs, sfits-of}
-use native.Mathlib.Omega.{arith}
-use mathlib.Core.Path.{_≡_, refl, sym, ap, _∙_}
-use mathlib.Core.Bool.{Bool, true, false}
-use mathlib.Core.List.{List, [], _∷_, _++_}
-use Prim.Native.Nat.{ℕ, suc, _≤_, _<_, _-_, _+_, _*_, _^_}
-use borrow.Author.Tests.{lt-ltb, le-ltb, le-leb, lt-leb, eq-eqb, ne-eqb}
-use lib.ListN.{length, drop, getD, take, set, length-set}
-use lib.IntN.{ℤ, pos, negsuc}
-use mir.Syntax.{w64}
-use mir.Val.{SFits, toZ, ofZ}
-use mir.ValLaws.{toZ-ofZ}
+use borrow.Author.Needs.{needs}
+use mathlib.Core.Path.{ap, _∙_}
+use Prim.Native.Nat.{_-_}
+use borrow.Author.Tests.{lt-ltb, le-ltb}
+use lib.ListN.{length}
 use Rattle.sheet.specs.Limits.{maxBytes}
 use Rattle.sheet.specs.Reading.{readOf, answer}
-use Rattle.sheet.specs.declared.reader.Part.{Part}
 use Rattle.sheet.proofs.read.Statement.{statement}
 use Rattle.sheet.proofs.read.Tie as tie
-use Rattle.sheet.proofs.read.Reads as reads
-use Rattle.sheet.proofs.read.Lts as lts
-use Rattle.sheet.proofs.reader.read_sheet.Reads as read-sheet-reads
-use Rattle.sheet.proofs.zero_schedule.Reads as zero-schedule-reads
 
 zero-schedule-requires : tie.Need-zero-schedule-requires
 zero-schedule-requires c κs = search needs

@@ -3,10 +3,7 @@ use mathlib.Core.Path.{refl}
 use Rattle.sheet.specs.Lines.{zeroSchedule}
 use Rattle.sheet.proofs.zero_schedule.Statement.{statement}
 use Rattle.sheet.proofs.zero_schedule.Tie as tie
-use Rattle.sheet.proofs.zero_schedule.Reads as reads
-use Rattle.sheet.proofs.zero_schedule.Lts as lts
 
--- src/lib.rt:115:1
 returns : tie.Need-returns
 unfolding zeroSchedule
 returns c = refl

@@ -1,21 +1,9 @@
 -- `end_byte` is byte 10 behind the last field, else a space.
-use borrow.Author.Needs.{needs, sfits-of}
-use native.Mathlib.Omega.{arith}
-use mathlib.Core.Path.{_≡_, refl, sym, ap, _∙_}
-use mathlib.Core.Bool.{Bool, true, false}
-use mathlib.Core.List.{List, [], _∷_, _++_}
-use Prim.Native.Nat.{ℕ, suc, _≤_, _<_, _-_, _+_, _*_, _^_}
-use borrow.Author.Tests.{lt-ltb, le-ltb, le-leb, lt-leb, eq-eqb, ne-eqb}
-use lib.ListN.{length, drop, getD, take, set, length-set}
-use lib.IntN.{ℤ, pos, negsuc}
-use mir.Syntax.{w64}
-use mir.Val.{SFits, toZ, ofZ}
-use mir.ValLaws.{toZ-ofZ}
+use borrow.Author.Needs.{needs}
+use Prim.Native.Nat.{_-_}
 use Rattle.sheet.proofs.FieldLine.{end-byte-last, end-byte-inner}
 use Rattle.sheet.proofs.fields.end_byte.Statement.{statement}
 use Rattle.sheet.proofs.fields.end_byte.Tie as tie
-use Rattle.sheet.proofs.fields.end_byte.Reads as reads
-use Rattle.sheet.proofs.fields.end_byte.Lts as lts
 
 sub-if1 : tie.Need-sub-if1
 sub-if1 c = search needs

@@ -1,15 +1,10 @@
 -- `fields_at` reads field after field: what it answers from the start is what it answers from here.
-use borrow.Author.Needs.{needs, sfits-of}
+use borrow.Author.Needs.{needs}
 use native.Mathlib.Omega.{arith}
-use mathlib.Core.Path.{_≡_, refl, sym, ap, _∙_}
-use mathlib.Core.Bool.{Bool, true, false}
-use mathlib.Core.List.{List, [], _∷_, _++_}
-use Prim.Native.Nat.{ℕ, suc, _≤_, _<_, _-_, _+_, _*_, _^_}
-use borrow.Author.Tests.{lt-ltb, le-ltb, le-leb, lt-leb, eq-eqb, ne-eqb}
-use lib.ListN.{length, drop, getD, take, set, length-set}
-use lib.IntN.{ℤ, pos, negsuc}
+use mathlib.Core.Path.{_≡_, refl, sym, _∙_}
+use Prim.Native.Nat.{_≤_, _-_, _+_}
+use lib.ListN.{length, length-set}
 use mir.Syntax.{w64}
-use mir.Val.{SFits, toZ, ofZ}
 use mir.ValLaws.{toZ-ofZ}
 use Rattle.sheet.specs.Number.{fieldAt}
 use Rattle.sheet.specs.Text.{endByte}
@@ -19,10 +14,6 @@ use Rattle.sheet.proofs.Numeral.{field-sound}
 use Rattle.sheet.proofs.FieldLine.{fields-more, fields-broken, fields-done, ten-digits-fit, end-byte-above-zero}
 use Rattle.sheet.proofs.fields.fields_at.Statement.{statement}
 use Rattle.sheet.proofs.fields.fields_at.Tie as tie
-use Rattle.sheet.proofs.fields.fields_at.Reads as reads
-use Rattle.sheet.proofs.fields.fields_at.Lts as lts
-use Rattle.sheet.proofs.fields.end_byte.Reads as end-byte-reads
-use Rattle.sheet.proofs.number.field_at.Reads as field-at-reads
 
 abbrev Inv-loop : tie.InvT-loop
 Inv-loop s at k v₀ p₀ i₀ v p i = (i ≤ k) × (p ≤ length s) × (length v ≡ 4) × (fieldsFrom k 0 zeros s at ≡ fieldsFrom (k - i) i v s p)

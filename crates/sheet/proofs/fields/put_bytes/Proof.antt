@@ -1,22 +1,13 @@
 -- `put_bytes` writes byte after byte: the first i bytes of t stand at their place.
-use borrow.Author.Needs.{needs, sfits-of}
+use borrow.Author.Needs.{needs}
 use native.Mathlib.Omega.{arith}
-use mathlib.Core.Path.{_≡_, refl, sym, ap, _∙_}
-use mathlib.Core.Bool.{Bool, true, false}
-use mathlib.Core.List.{List, [], _∷_, _++_}
-use Prim.Native.Nat.{ℕ, suc, _≤_, _<_, _-_, _+_, _*_, _^_}
-use borrow.Author.Tests.{lt-ltb, le-ltb, le-leb, lt-leb, eq-eqb, ne-eqb}
-use lib.ListN.{length, drop, getD, take, set, length-set}
-use lib.IntN.{ℤ, pos, negsuc}
-use mir.Syntax.{w64}
-use mir.Val.{SFits, toZ, ofZ}
-use mir.ValLaws.{toZ-ofZ}
-use lib.Seq.{sets, take-all, take-length}
+use mathlib.Core.Path.{_≡_, refl, _∙_}
+use Prim.Native.Nat.{_≤_, _-_, _+_}
+use lib.ListN.{length, getD, take, length-set}
+use lib.Seq.{sets, take-length}
 use Rattle.sheet.proofs.Prefix.{put-more}
 use Rattle.sheet.proofs.fields.put_bytes.Statement.{statement}
 use Rattle.sheet.proofs.fields.put_bytes.Tie as tie
-use Rattle.sheet.proofs.fields.put_bytes.Reads as reads
-use Rattle.sheet.proofs.fields.put_bytes.Lts as lts
 
 abbrev Inv-loop : tie.InvT-loop
 Inv-loop out₀ at t i₀ out i = (i ≤ length t) × (length out ≡ length out₀) × (out ≡ sets out₀ at (take i t))
@@ -45,10 +36,10 @@ loop-less c = search needs
 loop-again : tie.Need-loop-again Inv-loop μ-loop
 loop-again c =
     let l = c .before .before .loop in
-    let a = c .before .before .before .args in
-    ( omega arith
-    , length-set (l .out) (a .at + l .i) (getD (a .t .now) (l .i) 0) ∙ l .inv .1
-    , rw (l .inv .2) (put-more (a .out .now) (a .t .now) (a .at) (l .i) (omega arith))
+    let a = c .before .before .before .args in (
+      omega arith,
+      length-set (l .out) (a .at + l .i) (getD (a .t .now) (l .i) 0) ∙ l .inv .1,
+      rw (l .inv .2) (put-more (a .out .now) (a .t .now) (a .at) (l .i) (omega arith)),
     )
 
 add-result : tie.Need-add-result Inv-loop μ-loop

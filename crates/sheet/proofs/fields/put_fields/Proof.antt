@@ -1,29 +1,19 @@
 -- `put_fields` writes field after field: the first i fields of the line stand at their place.
-use borrow.Author.Needs.{needs, sfits-of}
+use borrow.Author.Needs.{needs}
 use native.Mathlib.Omega.{arith}
-use mathlib.Core.Path.{_≡_, refl, sym, ap, _∙_}
-use mathlib.Core.Bool.{Bool, true, false}
-use mathlib.Core.List.{List, [], _∷_, _++_}
-use Prim.Native.Nat.{ℕ, suc, _≤_, _<_, _-_, _+_, _*_, _^_}
-use borrow.Author.Tests.{lt-ltb, le-ltb, le-leb, lt-leb, eq-eqb, ne-eqb}
-use lib.ListN.{length, drop, getD, take, set, length-set}
-use lib.IntN.{ℤ, pos, negsuc}
+use mathlib.Core.Path.{_≡_, refl, _∙_}
+use Prim.Native.Nat.{_≤_, _-_}
+use lib.ListN.{length, getD, take}
+use lib.IntN.{pos}
 use mir.Syntax.{w64}
-use mir.Val.{SFits, toZ, ofZ}
-use mir.ValLaws.{toZ-ofZ}
+use mir.Val.{toZ, ofZ}
 use Rattle.sheet.specs.Wrote.{Wrote}
-use Rattle.sheet.specs.Text.{line, numeral, endByte}
+use Rattle.sheet.specs.Text.{line}
 use lib.Seq.{length-take-le}
-use lib.ListN.{length-append}
 use Rattle.sheet.proofs.Written.{wrote-then}
 use Rattle.sheet.proofs.FieldLine.{front, front-next, front-room, front-all}
-use Rattle.sheet.proofs.FieldLine.{front, front-more, front-all, front-short}
 use Rattle.sheet.proofs.fields.put_fields.Statement.{statement}
 use Rattle.sheet.proofs.fields.put_fields.Tie as tie
-use Rattle.sheet.proofs.fields.put_fields.Reads as reads
-use Rattle.sheet.proofs.fields.put_fields.Lts as lts
-use Rattle.sheet.proofs.fields.end_byte.Reads as end-byte-reads
-use Rattle.sheet.proofs.number.put_field.Reads as put-field-reads
 
 abbrev Inv-loop : tie.InvT-loop
 Inv-loop out₀ at k v p₀ i₀ out p i = (i ≤ k) × (length out ≡ length out₀) × Wrote out₀ out at p (front i (take k v))

@@ -1,22 +1,13 @@
 -- `stands` compares byte by byte: what is left to compare decides.
-use borrow.Author.Needs.{needs, sfits-of}
+use borrow.Author.Needs.{needs}
 use native.Mathlib.Omega.{arith}
-use mathlib.Core.Path.{_≡_, refl, sym, ap, _∙_}
-use mathlib.Core.Bool.{Bool, true, false}
-use mathlib.Core.List.{List, [], _∷_, _++_}
-use Prim.Native.Nat.{ℕ, suc, _≤_, _<_, _-_, _+_, _*_, _^_}
-use borrow.Author.Tests.{lt-ltb, le-ltb, le-leb, lt-leb, eq-eqb, ne-eqb}
-use lib.ListN.{length, drop, getD, take, set, length-set}
-use lib.IntN.{ℤ, pos, negsuc}
-use mir.Syntax.{w64}
-use mir.Val.{SFits, toZ, ofZ}
-use mir.ValLaws.{toZ-ofZ}
+use mathlib.Core.Path.{_≡_, sym, _∙_}
+use Prim.Native.Nat.{_≤_, _-_, _+_}
+use lib.ListN.{length, drop}
 use Rattle.sheet.specs.Reading.{starts}
 use Rattle.sheet.proofs.Prefix.{starts-more, starts-other, starts-short, starts-done}
 use Rattle.sheet.proofs.fields.stands.Statement.{statement}
 use Rattle.sheet.proofs.fields.stands.Tie as tie
-use Rattle.sheet.proofs.fields.stands.Reads as reads
-use Rattle.sheet.proofs.fields.stands.Lts as lts
 
 abbrev Inv-loop : tie.InvT-loop
 Inv-loop s at t j₀ j = (j ≤ length t) × (at + j ≤ length s) × (starts (drop at s) t ≡ starts (drop (at + j) s) (drop j t))

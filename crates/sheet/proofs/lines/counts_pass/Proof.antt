@@ -1,27 +1,14 @@
 -- `counts_pass` makes the three tests in their order.
-use borrow.Author.Needs.{needs, sfits-of}
-use native.Mathlib.Omega.{arith}
-use mathlib.Core.Path.{_≡_, refl, sym, ap, _∙_}
-use mathlib.Core.Bool.{Bool, true, false}
-use mathlib.Core.List.{List, [], _∷_, _++_}
-use Prim.Native.Nat.{ℕ, suc, _≤_, _<_, _-_, _+_, _*_, _^_}
-use borrow.Author.Tests.{lt-ltb, le-ltb, le-leb, lt-leb, eq-eqb, ne-eqb}
-use lib.ListN.{length, drop, getD, take, set, length-set}
-use lib.IntN.{ℤ, pos, negsuc}
+use borrow.Author.Needs.{needs}
+use mathlib.Core.Path.{_≡_, sym, _∙_}
+use Prim.Native.Nat.{_-_}
+use lib.IntN.{pos}
 use mir.Syntax.{w64}
-use mir.Val.{SFits, toZ, ofZ}
 use mir.ValLaws.{toZ-ofZ}
-use Rattle.sheet.specs.Lines.{between, withinLimit, natural, countsPass, endsPass, namesRow, rowPasses, valuePasses, stepPasses, zeroEnd, zeroStep, endsOf, stepOf}
-use Rattle.sheet.specs.Lines as Spec
-use Rattle.sheet.specs.Limits.{maxInputs, maxSteps, endLimit, lastBinary, lastCode}
-use lib.Signed.{leZ}
-use lib.Dec.{leb}
-use lib.IntN.{negℤ}
+use Rattle.sheet.specs.Lines.{between, countsPass}
+use Rattle.sheet.specs.Limits.{maxInputs}
 use Rattle.sheet.proofs.lines.counts_pass.Statement.{statement}
 use Rattle.sheet.proofs.lines.counts_pass.Tie as tie
-use Rattle.sheet.proofs.lines.counts_pass.Reads as reads
-use Rattle.sheet.proofs.lines.counts_pass.Lts as lts
-use Rattle.sheet.proofs.lines.between.Reads as between-reads
 
 -- what `between` answered, of the counts themselves and not of what the machine reads back from their bits
 inputs-are : (c : tie.After-between) → between (pos 1) (c .before .args .inputs) (pos maxInputs) ≡ c .between .result
@@ -56,11 +43,11 @@ returns c =
 
 returns-2 : tie.Need-returns-2
 unfolding countsPass
-returns-2 c =     simp (inputs-are (c .before .before .before) ∙ c .before .before .if1 .taken, squares-are (c .before) ∙ c .if2 .left)
+returns-2 c = simp (inputs-are (c .before .before .before) ∙ c .before .before .if1 .taken, squares-are (c .before) ∙ c .if2 .left)
 
 returns-3 : tie.Need-returns-3
 unfolding countsPass
-returns-3 c =     simp (inputs-are (c .before) ∙ c .if1 .left)
+returns-3 c = simp (inputs-are (c .before) ∙ c .if1 .left)
 
 pub counts-pass-spec : {M : Type 1} → statement M
 counts-pass-spec =

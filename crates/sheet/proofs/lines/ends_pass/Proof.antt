@@ -1,27 +1,12 @@
 -- `ends_pass` makes the three tests in their order.
-use borrow.Author.Needs.{needs, sfits-of}
-use native.Mathlib.Omega.{arith}
-use mathlib.Core.Path.{_≡_, refl, sym, ap, _∙_}
-use mathlib.Core.Bool.{Bool, true, false}
-use mathlib.Core.List.{List, [], _∷_, _++_}
-use Prim.Native.Nat.{ℕ, suc, _≤_, _<_, _-_, _+_, _*_, _^_}
-use borrow.Author.Tests.{lt-ltb, le-ltb, le-leb, lt-leb, eq-eqb, ne-eqb}
-use lib.ListN.{length, drop, getD, take, set, length-set}
-use lib.IntN.{ℤ, pos, negsuc}
+use borrow.Author.Needs.{needs}
+use mathlib.Core.Path.{_≡_, sym, _∙_}
+use Prim.Native.Nat.{_-_}
 use mir.Syntax.{w64}
-use mir.Val.{SFits, toZ, ofZ}
-use mir.ValLaws.{toZ-ofZ}
-use Rattle.sheet.specs.Lines.{between, withinLimit, natural, countsPass, endsPass, namesRow, rowPasses, valuePasses, stepPasses, zeroEnd, zeroStep, endsOf, stepOf}
-use Rattle.sheet.specs.Lines as Spec
-use Rattle.sheet.specs.Limits.{maxInputs, maxSteps, endLimit, lastBinary, lastCode}
-use lib.Signed.{leZ}
-use lib.Dec.{leb}
-use lib.IntN.{negℤ}
+use mir.Val.{toZ, ofZ}
+use Rattle.sheet.specs.Lines.{withinLimit, endsPass}
 use Rattle.sheet.proofs.lines.ends_pass.Statement.{statement}
 use Rattle.sheet.proofs.lines.ends_pass.Tie as tie
-use Rattle.sheet.proofs.lines.ends_pass.Reads as reads
-use Rattle.sheet.proofs.lines.ends_pass.Lts as lts
-use Rattle.sheet.proofs.lines.within_limit.Reads as within-limit-reads
 
 -- what `within_limit` answered, of the ends themselves
 low-is : (c : tie.After-within-limit) → withinLimit (c .before .before .args .e .low) ≡ c .within-limit .result
@@ -52,11 +37,11 @@ returns c =
 
 returns-2 : tie.Need-returns-2
 unfolding endsPass
-returns-2 c =     simp (low-is (c .before .before .before .before) ∙ c .before .before .before .if1 .taken, high-is (c .before) ∙ c .if2 .left)
+returns-2 c = simp (low-is (c .before .before .before .before) ∙ c .before .before .before .if1 .taken, high-is (c .before) ∙ c .if2 .left)
 
 returns-3 : tie.Need-returns-3
 unfolding endsPass
-returns-3 c =     simp (low-is (c .before) ∙ c .if1 .left)
+returns-3 c = simp (low-is (c .before) ∙ c .if1 .left)
 
 pub ends-pass-spec : {M : Type 1} → statement M
 ends-pass-spec =

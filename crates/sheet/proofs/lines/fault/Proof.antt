@@ -1,29 +1,13 @@
 -- `fault` asks the test of the kind of line.
-use borrow.Author.Needs.{needs, sfits-of}
-use native.Mathlib.Omega.{arith}
-use mathlib.Core.Path.{_≡_, refl, sym, ap, _∙_}
-use mathlib.Core.Bool.{Bool, true, false}
-use mathlib.Core.List.{List, [], _∷_, _++_}
-use Prim.Native.Nat.{ℕ, suc, _≤_, _<_, _-_, _+_, _*_, _^_}
-use borrow.Author.Tests.{lt-ltb, le-ltb, le-leb, lt-leb, eq-eqb, ne-eqb}
-use lib.ListN.{length, drop, getD, take, set, length-set}
-use lib.IntN.{ℤ, pos, negsuc}
+use borrow.Author.Needs.{needs}
+use mathlib.Core.Path.{_≡_, sym, _∙_}
+use Prim.Native.Nat.{ℕ, _-_}
 use mir.Syntax.{w64}
-use mir.Val.{SFits, toZ, ofZ}
-use mir.ValLaws.{toZ-ofZ}
+use mir.Val.{toZ, ofZ}
 use Rattle.sheet.specs.Lines.{countsPass, endsPass, stepPasses}
 use Rattle.sheet.specs.Lines as Spec
-use Rattle.sheet.specs.Lines.{between, withinLimit, natural, countsPass, endsPass, namesRow, rowPasses, valuePasses, stepPasses, zeroEnd, zeroStep, endsOf, stepOf}
-use Rattle.sheet.specs.Limits.{maxInputs, maxSteps, endLimit, lastBinary, lastCode}
 use Rattle.sheet.proofs.lines.fault.Statement.{statement}
 use Rattle.sheet.proofs.lines.fault.Tie as tie
-use Rattle.sheet.proofs.lines.fault.Reads as reads
-use Rattle.sheet.proofs.lines.fault.Lts as lts
-use Rattle.sheet.proofs.lines.counts_pass.Reads as counts-pass-reads
-use Rattle.sheet.proofs.lines.ends_of.Reads as ends-of-reads
-use Rattle.sheet.proofs.lines.ends_pass.Reads as ends-pass-reads
-use Rattle.sheet.proofs.lines.step_of.Reads as step-of-reads
-use Rattle.sheet.proofs.lines.step_passes.Reads as step-passes-reads
 
 -- what the tests answered, of the numbers of the line
 counts-are : (c : tie.After-counts-pass)

@@ -1,21 +1,10 @@
 -- `line_of` makes the tests of `lineOf` in their order.
-use borrow.Author.Needs.{needs, sfits-of}
-use native.Mathlib.Omega.{arith}
-use mathlib.Core.Path.{_≡_, refl, sym, ap, _∙_}
-use mathlib.Core.Bool.{Bool, true, false}
-use mathlib.Core.List.{List, [], _∷_, _++_}
-use Prim.Native.Nat.{ℕ, suc, _≤_, _<_, _-_, _+_, _*_, _^_}
+use borrow.Author.Needs.{needs}
+use Prim.Native.Nat.{_-_}
 use borrow.Author.Tests.{lt-ltb, le-ltb, le-leb, lt-leb, eq-eqb, ne-eqb}
-use lib.ListN.{length, drop, getD, take, set, length-set}
-use lib.IntN.{ℤ, pos, negsuc}
-use mir.Syntax.{w64}
-use mir.Val.{SFits, toZ, ofZ}
-use mir.ValLaws.{toZ-ofZ}
 use Rattle.sheet.specs.Lines.{lineOf}
 use Rattle.sheet.proofs.lines.line_of.Statement.{statement}
 use Rattle.sheet.proofs.lines.line_of.Tie as tie
-use Rattle.sheet.proofs.lines.line_of.Reads as reads
-use Rattle.sheet.proofs.lines.line_of.Lts as lts
 
 returns : tie.Need-returns
 unfolding lineOf

@@ -1,22 +1,13 @@
 -- `lines_left` adds the two counts and 2.
-use borrow.Author.Needs.{needs, sfits-of}
+use borrow.Author.Needs.{needs}
 use native.Mathlib.Omega.{arith}
-use mathlib.Core.Path.{_≡_, refl, sym, ap, _∙_}
-use mathlib.Core.Bool.{Bool, true, false}
-use mathlib.Core.List.{List, [], _∷_, _++_}
-use Prim.Native.Nat.{ℕ, suc, _≤_, _<_, _-_, _+_, _*_, _^_}
-use borrow.Author.Tests.{lt-ltb, le-ltb, le-leb, lt-leb, eq-eqb, ne-eqb}
-use lib.ListN.{length, drop, getD, take, set, length-set}
-use lib.IntN.{ℤ, pos, negsuc}
+use mathlib.Core.Path.{_≡_, ap, _∙_}
+use Prim.Native.Nat.{_-_}
 use mir.Syntax.{w64}
-use mir.Val.{SFits, toZ, ofZ}
-use mir.ValLaws.{toZ-ofZ}
+use mir.Val.{toZ, ofZ}
 use Rattle.sheet.specs.Lines.{natural}
 use Rattle.sheet.proofs.lines.lines_left.Statement.{statement}
 use Rattle.sheet.proofs.lines.lines_left.Tie as tie
-use Rattle.sheet.proofs.lines.lines_left.Reads as reads
-use Rattle.sheet.proofs.lines.lines_left.Lts as lts
-use Rattle.sheet.proofs.lines.natural.Reads as natural-reads
 
 -- what `natural` answered, of the counts themselves and not of what the machine reads back from their bits
 counts : (c : tie.After-natural2)

@@ -1,16 +1,9 @@
 -- `numbers` makes the list of each kind of line.
-use borrow.Author.Needs.{needs, sfits-of}
-use native.Mathlib.Omega.{arith}
-use mathlib.Core.Path.{_≡_, refl, sym, ap, _∙_}
-use mathlib.Core.Bool.{Bool, true, false}
-use mathlib.Core.List.{List, [], _∷_, _++_}
-use Prim.Native.Nat.{ℕ, suc, _≤_, _<_, _-_, _+_, _*_, _^_}
-use borrow.Author.Tests.{lt-ltb, le-ltb, le-leb, lt-leb, eq-eqb, ne-eqb}
-use lib.ListN.{length, drop, getD, take, set, length-set}
-use lib.IntN.{ℤ, pos, negsuc}
+use borrow.Author.Needs.{needs}
+use mathlib.Core.Path.{_≡_, ap}
+use Prim.Native.Nat.{_-_}
 use mir.Syntax.{w64}
-use mir.Val.{SFits, toZ, ofZ}
-use mir.ValLaws.{toZ-ofZ}
+use mir.Val.{toZ, ofZ}
 use Rattle.sheet.specs.Lines.{endNumbers, stepNumbers}
 use Rattle.sheet.specs.Lines as Spec
 use Rattle.sheet.specs.Reading.{padded}
@@ -18,10 +11,6 @@ use Rattle.sheet.specs.declared.End.{End}
 use Rattle.sheet.specs.declared.Step.{Step}
 use Rattle.sheet.proofs.lines.numbers.Statement.{statement}
 use Rattle.sheet.proofs.lines.numbers.Tie as tie
-use Rattle.sheet.proofs.lines.numbers.Reads as reads
-use Rattle.sheet.proofs.lines.numbers.Lts as lts
-use Rattle.sheet.proofs.lines.ends_at.Reads as ends-at-reads
-use Rattle.sheet.proofs.lines.step_at.Reads as step-at-reads
 
 enum-told : tie.Need-enum-told
 enum-told c = search needs

@@ -1,28 +1,11 @@
 -- `row_passes` asks the test that the field takes.
-use borrow.Author.Needs.{needs, sfits-of}
-use native.Mathlib.Omega.{arith}
-use mathlib.Core.Path.{_≡_, refl, sym, ap, _∙_}
-use mathlib.Core.Bool.{Bool, true, false}
-use mathlib.Core.List.{List, [], _∷_, _++_}
-use Prim.Native.Nat.{ℕ, suc, _≤_, _<_, _-_, _+_, _*_, _^_}
-use borrow.Author.Tests.{lt-ltb, le-ltb, le-leb, lt-leb, eq-eqb, ne-eqb}
-use lib.ListN.{length, drop, getD, take, set, length-set}
-use lib.IntN.{ℤ, pos, negsuc}
+use borrow.Author.Needs.{needs}
+use Prim.Native.Nat.{_-_}
 use mir.Syntax.{w64}
-use mir.Val.{SFits, toZ, ofZ}
 use mir.ValLaws.{toZ-ofZ}
-use Rattle.sheet.specs.Lines.{between, withinLimit, natural, countsPass, endsPass, namesRow, rowPasses, valuePasses, stepPasses, zeroEnd, zeroStep, endsOf, stepOf}
-use Rattle.sheet.specs.Lines as Spec
-use Rattle.sheet.specs.Limits.{maxInputs, maxSteps, endLimit, lastBinary, lastCode}
-use lib.Signed.{leZ}
-use lib.Dec.{leb}
-use lib.IntN.{negℤ}
+use Rattle.sheet.specs.Lines.{between}
 use Rattle.sheet.proofs.lines.row_passes.Statement.{statement}
 use Rattle.sheet.proofs.lines.row_passes.Tie as tie
-use Rattle.sheet.proofs.lines.row_passes.Reads as reads
-use Rattle.sheet.proofs.lines.row_passes.Lts as lts
-use Rattle.sheet.proofs.lines.between.Reads as between-reads
-use Rattle.sheet.proofs.lines.names_row.Reads as names-row-reads
 
 names-row-requires : tie.Need-names-row-requires
 names-row-requires c κs = search needs

@@ -1,22 +1,13 @@
 -- `step_at` reads within the room, and is zeros beyond it.
-use borrow.Author.Needs.{needs, sfits-of}
+use borrow.Author.Needs.{needs}
 use native.Mathlib.Omega.{arith}
-use mathlib.Core.Path.{_≡_, refl, sym, ap, _∙_}
-use mathlib.Core.Bool.{Bool, true, false}
-use mathlib.Core.List.{List, [], _∷_, _++_}
-use Prim.Native.Nat.{ℕ, suc, _≤_, _<_, _-_, _+_, _*_, _^_}
-use borrow.Author.Tests.{lt-ltb, le-ltb, le-leb, lt-leb, eq-eqb, ne-eqb}
-use lib.ListN.{length, drop, getD, take, set, length-set}
-use lib.IntN.{ℤ, pos, negsuc}
-use mir.Syntax.{w64}
-use mir.Val.{SFits, toZ, ofZ}
-use mir.ValLaws.{toZ-ofZ}
-use lib.ListN.{List·getD-eq-default, length-map}
+use mathlib.Core.Path.{_≡_, sym, _∙_}
+use Prim.Native.Nat.{_-_}
+use lib.ListN.{length, List·getD-eq-default, length-map}
+use Rattle.sheet.specs.Limits.{maxSteps}
 use Rattle.sheet.specs.Lines.{zeroStep}
 use Rattle.sheet.proofs.lines.step_at.Statement.{statement}
 use Rattle.sheet.proofs.lines.step_at.Tie as tie
-use Rattle.sheet.proofs.lines.step_at.Reads as reads
-use Rattle.sheet.proofs.lines.step_at.Lts as lts
 
 mul-result : tie.Need-mul-result
 mul-result c = search needs
@@ -30,7 +21,7 @@ returns c = search needs
 returns-2 : tie.Need-returns-2
 returns-2 c =
     let s = c .before in
-    let n : length (s .args .t1 .step) ≡ 24 = sym (length-map (s .args .t1 .step) _) ∙ s .good .0 .1 .1 .1 .1 .1 .1 .0 .1 .0 .1 in
+    let n : length (s .args .t1 .step) ≡ maxSteps = sym (length-map (s .args .t1 .step) _) ∙ s .good .0 .1 .1 .1 .1 .1 .1 .0 .1 .0 .1 in
     sym (List·getD-eq-default (s .args .t1 .step) zeroStep (omega arith))
 
 pub step-at-spec : {M : Type 1} → statement M

@@ -1,29 +1,15 @@
 -- `step_passes` makes the four tests in their order.
-use borrow.Author.Needs.{needs, sfits-of}
-use native.Mathlib.Omega.{arith}
-use mathlib.Core.Path.{_≡_, refl, sym, ap, _∙_}
-use mathlib.Core.Bool.{Bool, true, false}
-use mathlib.Core.List.{List, [], _∷_, _++_}
-use Prim.Native.Nat.{ℕ, suc, _≤_, _<_, _-_, _+_, _*_, _^_}
-use borrow.Author.Tests.{lt-ltb, le-ltb, le-leb, lt-leb, eq-eqb, ne-eqb}
-use lib.ListN.{length, drop, getD, take, set, length-set}
-use lib.IntN.{ℤ, pos, negsuc}
+use borrow.Author.Needs.{needs}
+use mathlib.Core.Path.{_≡_, sym, _∙_}
+use Prim.Native.Nat.{_-_}
+use lib.IntN.{pos}
 use mir.Syntax.{w64}
-use mir.Val.{SFits, toZ, ofZ}
-use mir.ValLaws.{toZ-ofZ}
-use Rattle.sheet.specs.Lines.{between, withinLimit, natural, countsPass, endsPass, namesRow, rowPasses, valuePasses, stepPasses, zeroEnd, zeroStep, endsOf, stepOf}
-use Rattle.sheet.specs.Lines as Spec
-use Rattle.sheet.specs.Limits.{maxInputs, maxSteps, endLimit, lastBinary, lastCode}
+use mir.Val.{toZ, ofZ}
+use Rattle.sheet.specs.Lines.{between, rowPasses, stepPasses}
+use Rattle.sheet.specs.Limits.{lastBinary, lastCode}
 use lib.Signed.{leZ}
-use lib.Dec.{leb}
-use lib.IntN.{negℤ}
 use Rattle.sheet.proofs.lines.step_passes.Statement.{statement}
 use Rattle.sheet.proofs.lines.step_passes.Tie as tie
-use Rattle.sheet.proofs.lines.step_passes.Reads as reads
-use Rattle.sheet.proofs.lines.step_passes.Lts as lts
-use Rattle.sheet.proofs.lines.between.Reads as between-reads
-use Rattle.sheet.proofs.lines.row_passes.Reads as row-passes-reads
-use Rattle.sheet.proofs.lines.value_passes.Reads as value-passes-reads
 
 -- what the tests answered, of the fields themselves
 code-is : (c : tie.After-between) → between (pos 1) (c .before .before .args .t .code) (pos lastCode) ≡ c .between .result
@@ -75,15 +61,15 @@ returns c =
 
 returns-2 : tie.Need-returns-2
 unfolding stepPasses
-returns-2 c =     simp (code-is (c .before .before .before .before .before .before .before .before .before .before .before) ∙ c .before .before .before .before .before .before .before .before .before .before .if1 .taken, first-is (c .before .before .before .before .before .before) ∙ c .before .before .before .before .before .if2 .taken, second-is (c .before) ∙ c .if3 .left)
+returns-2 c = simp (code-is (c .before .before .before .before .before .before .before .before .before .before .before) ∙ c .before .before .before .before .before .before .before .before .before .before .if1 .taken, first-is (c .before .before .before .before .before .before) ∙ c .before .before .before .before .before .if2 .taken, second-is (c .before) ∙ c .if3 .left)
 
 returns-3 : tie.Need-returns-3
 unfolding stepPasses
-returns-3 c =     simp (code-is (c .before .before .before .before .before .before) ∙ c .before .before .before .before .before .if1 .taken, first-is (c .before) ∙ c .if2 .left)
+returns-3 c = simp (code-is (c .before .before .before .before .before .before) ∙ c .before .before .before .before .before .if1 .taken, first-is (c .before) ∙ c .if2 .left)
 
 returns-4 : tie.Need-returns-4
 unfolding stepPasses
-returns-4 c =     simp (code-is (c .before) ∙ c .if1 .left)
+returns-4 c = simp (code-is (c .before) ∙ c .if1 .left)
 
 pub step-passes-spec : {M : Type 1} → statement M
 step-passes-spec =

@@ -1,26 +1,9 @@
 -- `store` puts the numbers where the kind of line has its place.
-use borrow.Author.Needs.{needs, sfits-of}
-use native.Mathlib.Omega.{arith}
-use mathlib.Core.Path.{_≡_, refl, sym, ap, _∙_}
-use mathlib.Core.Bool.{Bool, true, false}
-use mathlib.Core.List.{List, [], _∷_, _++_}
-use Prim.Native.Nat.{ℕ, suc, _≤_, _<_, _-_, _+_, _*_, _^_}
-use borrow.Author.Tests.{lt-ltb, le-ltb, le-leb, lt-leb, eq-eqb, ne-eqb}
-use lib.ListN.{length, drop, getD, take, set, length-set}
-use lib.IntN.{ℤ, pos, negsuc}
-use mir.Syntax.{w64}
-use mir.Val.{SFits, toZ, ofZ}
-use mir.ValLaws.{toZ-ofZ}
+use borrow.Author.Needs.{needs}
+use Prim.Native.Nat.{_-_}
 use Rattle.sheet.specs.Lines as Spec
 use Rattle.sheet.proofs.lines.store.Statement.{statement}
 use Rattle.sheet.proofs.lines.store.Tie as tie
-use Rattle.sheet.proofs.lines.store.Reads as reads
-use Rattle.sheet.proofs.lines.store.Lts as lts
-use Rattle.sheet.proofs.lines.ends_of.Reads as ends-of-reads
-use Rattle.sheet.proofs.lines.step_of.Reads as step-of-reads
-use Rattle.sheet.proofs.lines.with_counts.Reads as with-counts-reads
-use Rattle.sheet.proofs.lines.with_ends.Reads as with-ends-reads
-use Rattle.sheet.proofs.lines.with_step.Reads as with-step-reads
 
 enum-told : tie.Need-enum-told
 enum-told c = search needs

@@ -1,25 +1,16 @@
 -- `with_step` writes within the room, and nothing beyond it.
-use borrow.Author.Needs.{needs, sfits-of}
+use borrow.Author.Needs.{needs}
 use native.Mathlib.Omega.{arith}
-use mathlib.Core.Path.{_≡_, refl, sym, ap, _∙_}
-use mathlib.Core.Bool.{Bool, true, false}
-use mathlib.Core.List.{List, [], _∷_, _++_}
-use Prim.Native.Nat.{ℕ, suc, _≤_, _<_, _-_, _+_, _*_, _^_}
-use borrow.Author.Tests.{lt-ltb, le-ltb, le-leb, lt-leb, eq-eqb, ne-eqb}
-use lib.ListN.{length, drop, getD, take, set, length-set}
-use lib.IntN.{ℤ, pos, negsuc}
-use mir.Syntax.{w64}
-use mir.Val.{SFits, toZ, ofZ}
-use mir.ValLaws.{toZ-ofZ}
-use lib.ListN.{length-map}
+use mathlib.Core.Path.{_≡_, sym, ap, _∙_}
+use mathlib.Core.List.{List}
+use Prim.Native.Nat.{_-_}
+use lib.ListN.{length, length-map}
 use lib.Seq.{set-out}
-use Rattle.sheet.specs.declared.End.{End}
+use Rattle.sheet.specs.Limits.{maxSteps}
 use Rattle.sheet.specs.declared.Step.{Step}
 use Rattle.sheet.specs.declared.Schedule.{Schedule}
 use Rattle.sheet.proofs.lines.with_step.Statement.{statement}
 use Rattle.sheet.proofs.lines.with_step.Tie as tie
-use Rattle.sheet.proofs.lines.with_step.Reads as reads
-use Rattle.sheet.proofs.lines.with_step.Lts as lts
 
 abbrev with-step : Schedule → List Step → Schedule
 with-step d l = record { inputs = d .inputs; squares = d .squares; steps = d .steps; ends = d .ends; step = l }
@@ -37,7 +28,7 @@ returns-2 : tie.Need-returns-2
 returns-2 c =
     let s = c .before in
     let d = s .args .t1 in
-    let n : length (d .step) ≡ 24 = sym (length-map (d .step) _) ∙ s .good .0 .1 .1 .1 .1 .1 .1 .0 .1 .0 .1 in
+    let n : length (d .step) ≡ maxSteps = sym (length-map (d .step) _) ∙ s .good .0 .1 .1 .1 .1 .1 .1 .0 .1 .0 .1 in
     ap (λ (l : List Step). with-step d l) (sym (set-out (d .step) (s .args .i) (s .args .t) (omega arith)))
 
 pub with-step-spec : {M : Type 1} → statement M

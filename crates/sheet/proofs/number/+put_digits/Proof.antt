@@ -1,6 +1,7 @@
+-- `put_digits` writes the digits before the last by itself, then the last: the equations of `decimal`. The measure is k.
 use borrow.Author.Needs.{needs}
 use native.Mathlib.Omega.{arith}
-use mathlib.Core.Path.{_≡_, refl, sym, ap, _∙_}
+use mathlib.Core.Path.{_≡_, refl, ap}
 use Rattle.sheet.proofs.Written.{sets-snoc}
 use Rattle.sheet.proofs.Decimal.{decimal-one, decimal-more, decimal-length}
 use Prim.Native.Nat.{ℕ, _<_, _-_, _/_, _%_, _+_}
@@ -26,7 +27,6 @@ abbrev put-digits-below : ℕ → In 1 put-digits-kinds.ps
 put-digits-below t =
     and 1 put-digits-kinds.ps (falls 1 put-digits-kinds.ps _<_ μ-put-digits t) put-digits.Pre
 
--- src/lib.rt:147:20
 put-digits-add-out :
     (t : ℕ) →
     put-digits-lts.Need-add-out
@@ -35,7 +35,6 @@ put-digits-add-out :
     put-digits.Post
 put-digits-add-out t c = search needs
 
--- src/lib.rt:147:19
 put-digits-cast-out :
     (t : ℕ) →
     put-digits-lts.Need-cast-out
@@ -44,7 +43,6 @@ put-digits-cast-out :
     put-digits.Post
 put-digits-cast-out t c = search needs
 
--- src/lib.rt:147:9
 put-digits-slice-write-out : (t : ℕ) → put-digits-lts.Need-slice-write-out (
   put-digits-below t,
   put-digits.Post,
@@ -53,21 +51,18 @@ put-digits-slice-write-out t c =
     let a = c .before .before .before .args in
     omega (arith, ap length (decimal-one (a .k) (a .v) (c .before .if1 .left) (c .if2 .taken)))
 
--- src/lib.rt:148:9
 put-digits-add-result : (t : ℕ) → put-digits-lts.Need-add-result (
   put-digits-below t,
   put-digits.Post,
 ) (put-digits-at t) put-digits.Post
 put-digits-add-result t c = search needs
 
--- src/lib.rt:150:45
 put-digits-sub-put-digits : (t : ℕ) → put-digits-lts.Need-sub-put-digits (
   put-digits-below t,
   put-digits.Post,
 ) (put-digits-at t) put-digits.Post
 put-digits-sub-put-digits t c = search needs
 
--- src/lib.rt:150:13
 put-digits-put-digits-requires : (t : ℕ) → put-digits-lts.Need-put-digits-requires (
   put-digits-below t,
   put-digits.Post,
@@ -76,21 +71,18 @@ put-digits-put-digits-requires t c κs =
     let a = c .before .before .before .before .args in
     omega (arith, decimal-length (a .k) (a .v) (c .before .before .if1 .left) (c .before .if2 .left))
 
--- src/lib.rt:151:19
 put-digits-add-out-2 : (t : ℕ) → put-digits-lts.Need-add-out-2 (
   put-digits-below t,
   put-digits.Post,
 ) (put-digits-at t) put-digits.Post
 put-digits-add-out-2 t c = search needs
 
--- src/lib.rt:151:18
 put-digits-cast-out-2 : (t : ℕ) → put-digits-lts.Need-cast-out-2 (
   put-digits-below t,
   put-digits.Post,
 ) (put-digits-at t) put-digits.Post
 put-digits-cast-out-2 t c = search needs
 
--- src/lib.rt:151:9
 put-digits-slice-write-out-2 : (t : ℕ) → put-digits-lts.Need-slice-write-out-2 (
   put-digits-below t,
   put-digits.Post,
@@ -100,7 +92,6 @@ put-digits-slice-write-out-2 t c =
     let f = c .before .before .put-digits in
     omega (arith, decimal-length (a .k) (a .v) (c .before .before .before .before .before .if1 .left) (c .before .before .before .before .if2 .left), f .ensures .ends, f .kept .0)
 
--- src/lib.rt:152:9
 put-digits-add-result-2 : (t : ℕ) → put-digits-lts.Need-add-result-2 (
   put-digits-below t,
   put-digits.Post,
@@ -110,7 +101,6 @@ put-digits-add-result-2 t c =
     let f = c .before .before .put-digits in
     omega (arith, decimal-length (a .k) (a .v) (c .before .before .before .before .before .if1 .left) (c .before .before .before .before .if2 .left), f .ensures .ends, f .kept .0)
 
--- src/lib.rt:140:1
 put-digits-returns :
     (t : ℕ) →
     put-digits-lts.Need-returns
@@ -120,14 +110,12 @@ put-digits-returns :
 unfolding decimal
 put-digits-returns t c = let a = c .before .before .args in let n : a .k ≡ 0 = c .if1 .taken in rw n (record { ends = omega arith; is = refl })
 
--- src/lib.rt:140:1
 put-digits-same-length : (t : ℕ) → put-digits-lts.Need-same-length (
   put-digits-below t,
   put-digits.Post,
 ) (put-digits-at t) put-digits.Post
 put-digits-same-length t c = search needs
 
--- src/lib.rt:140:1
 put-digits-returns-2 : (t : ℕ) → put-digits-lts.Need-returns-2 (
   put-digits-below t,
   put-digits.Post,
@@ -136,14 +124,12 @@ put-digits-returns-2 t c =
     let a = c .before .before .before .args in
     rw (decimal-one (a .k) (a .v) (c .before .if1 .left) (c .if2 .taken)) (record { ends = refl; is = refl })
 
--- src/lib.rt:140:1
 put-digits-same-length-2 : (t : ℕ) → put-digits-lts.Need-same-length-2 (
   put-digits-below t,
   put-digits.Post,
 ) (put-digits-at t) put-digits.Post
 put-digits-same-length-2 t c = simp length-set (c .before .before .put-digits .kept .0)
 
--- src/lib.rt:140:1
 put-digits-returns-3 : (t : ℕ) → put-digits-lts.Need-returns-3 (
   put-digits-below t,
   put-digits.Post,
@@ -154,9 +140,9 @@ put-digits-returns-3 t c =
     let f = c .before .before .put-digits in
     let e = decimal-more (a .k) (a .v) (c .before .before .before .before .before .if1 .left) (c .before .before .before .before .if2 .left) in
     rw e
-    (record
-    { ends = rw (length-append (decimal (a .k - 1) (a .v / 10)) ((a .v % 10 + 48) ∷ [])) (omega (arith, f .ensures .ends))
-    ; is = rw (f .ensures .is, f .ensures .ends) (sets-snoc (decimal (a .k - 1) (a .v / 10)) (a .out .now) (a .at) (a .v % 10 + 48))
+    (record {
+      ends = rw (length-append (decimal (a .k - 1) (a .v / 10)) ((a .v % 10 + 48) ∷ [])) (omega (arith, f .ensures .ends));
+      is = rw (f .ensures .is, f .ensures .ends) (sets-snoc (decimal (a .k - 1) (a .v / 10)) (a .out .now) (a .at) (a .v % 10 + 48));
     })
 
 pub +put-digits-spec : {M : Type 1} → statement M

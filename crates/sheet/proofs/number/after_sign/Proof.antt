@@ -1,30 +1,22 @@
+-- `after_sign` judges the run of digits by its first byte and the byte behind it.
 use borrow.Author.Needs.{needs}
 use native.Mathlib.Omega.{arith}
-use mathlib.Core.Path.{_≡_, sym, _∙_}
+use mathlib.Core.Path.{_∙_}
 use lib.ListN.{drop, length-drop}
-use Rattle.sheet.specs.Number.{run, afterSign}
-use Rattle.sheet.proofs.Digits.{run-within, Within}
+use Rattle.sheet.specs.Number.{afterSign}
+use Rattle.sheet.proofs.Digits.{run-within}
 use Rattle.sheet.proofs.number.after_sign.Statement.{statement}
 use Rattle.sheet.proofs.number.after_sign.Tie as tie
-use Rattle.sheet.proofs.number.after_sign.Reads as reads
-use Rattle.sheet.proofs.number.after_sign.Lts as lts
-use Rattle.sheet.proofs.number.byte.Reads as byte-reads
-use Rattle.sheet.proofs.number.digits.Reads as digits-reads
-use Rattle.sheet.proofs.number.judge.Reads as judge-reads
 
--- src/lib.rt:118:9
 digits-requires : tie.Need-digits-requires
 digits-requires c κs = search needs
 
--- src/lib.rt:120:31
 byte-requires : tie.Need-byte-requires
 byte-requires c κs = search needs
 
--- src/lib.rt:120:43
 byte-requires-2 : tie.Need-byte-requires-2
 byte-requires-2 c κs = search needs
 
--- src/lib.rt:120:5
 judge-requires : tie.Need-judge-requires
 judge-requires c κs =
     let a = c .before .before .before .before .args in
@@ -33,7 +25,6 @@ judge-requires c κs =
     let g = c .before .before .before .before .good in
     (w .small, omega (arith, w .upto), omega arith)
 
--- src/lib.rt:114:1
 returns : tie.Need-returns
 unfolding afterSign
 returns c =

@@ -1,24 +1,18 @@
+-- `digit` makes the two tests of `digitOf`.
 use borrow.Author.Needs.{needs}
 use borrow.Author.Tests.{lt-ltb, le-ltb, le-leb, lt-leb}
-use native.Mathlib.Omega.{arith}
 use Rattle.sheet.proofs.number.digit.Statement.{statement}
 use Rattle.sheet.proofs.number.digit.Tie as tie
-use Rattle.sheet.proofs.number.digit.Reads as reads
-use Rattle.sheet.proofs.number.digit.Lts as lts
 
--- src/lib.rt:27:9
 cast-result : tie.Need-cast-result
 cast-result c = search needs
 
--- src/lib.rt:21:1
 returns : tie.Need-returns
 returns c = simp (lt-ltb _ _ (c .if1 .taken))
 
--- src/lib.rt:21:1
 returns-2 : tie.Need-returns-2
 returns-2 c = simp (le-ltb _ _ (c .before .if1 .left), le-leb _ _ (c .if2 .taken))
 
--- src/lib.rt:21:1
 returns-3 : tie.Need-returns-3
 returns-3 c = simp (le-ltb _ _ (c .before .if1 .left), lt-leb _ _ (c .if2 .left))
 

@@ -1,52 +1,42 @@
+-- `judge` makes the tests of `judged` in their order.
 use borrow.Author.Needs.{needs, sfits-of}
 use mir.Syntax.{w64}
 use mir.ValLaws.{toZ-ofZ}
-use borrow.Author.Tests.{lt-ltb, le-ltb, le-leb, lt-leb, eq-eqb, ne-eqb}
+use borrow.Author.Tests.{le-leb, lt-leb, eq-eqb, ne-eqb}
 use mathlib.Core.Logic.{⊎-elim}
-use mathlib.Core.Path.{_∙_, sym}
+use mathlib.Core.Path.{_∙_}
 use Rattle.sheet.specs.Number.{judged}
 use Rattle.sheet.proofs.number.judge.Statement.{statement}
 use Rattle.sheet.proofs.number.judge.Tie as tie
-use Rattle.sheet.proofs.number.judge.Reads as reads
-use Rattle.sheet.proofs.number.judge.Lts as lts
-use Rattle.sheet.proofs.number.signed.Reads as signed-reads
 
--- src/lib.rt:97:9
 returns : tie.Need-returns
 unfolding judged
 returns c = simp (le-leb _ _ (c .if1 .taken))
 
--- src/lib.rt:100:9
 returns-2 : tie.Need-returns-2
 unfolding judged
 returns-2 c = simp (lt-leb _ _ (c .before .if1 .left), ne-eqb _ _ (c .if2 .taken))
 
--- src/lib.rt:103:17
 add-if4 : tie.Need-add-if4
 add-if4 c = search needs
 
--- src/lib.rt:104:13
 returns-3 : tie.Need-returns-3
 unfolding judged
 returns-3 c = simp (lt-leb _ _ (c .before .before .before .if1 .left), eq-eqb _ _ (c .before .before .if2 .left), eq-eqb _ _ (c .before .if3 .taken), ne-eqb _ _ (c .if4 .taken))
 
--- src/lib.rt:107:13
 returns-4 : tie.Need-returns-4
 unfolding judged
 returns-4 c = simp (lt-leb _ _ (c .before .before .before .before .if1 .left), eq-eqb _ _ (c .before .before .before .if2 .left), eq-eqb _ _ (c .before .before .if3 .taken), eq-eqb _ _ (c .before .if4 .left), c .if5 .taken)
 
--- src/lib.rt:110:25
 signed-requires : tie.Need-signed-requires
 signed-requires c κs = search needs
 
--- src/lib.rt:110:47
 add-t12 : tie.Need-add-t12
 add-t12 c = search needs
 
--- src/lib.rt:92:1
 returns-5 : tie.Need-returns-5
 unfolding judged
-returns-5 c = 
+returns-5 c =
     let b = c .before .before .before in
     let v = toZ-ofZ w64 (c .signed .result) (sfits-of (c .signed .ok)) ∙ c .signed .ensures in
     ⊎-elim

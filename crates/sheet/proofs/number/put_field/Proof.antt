@@ -1,7 +1,6 @@
 -- `put_field` writes the numeral and the byte behind it.
 use borrow.Author.Needs.{needs}
 use native.Mathlib.Omega.{arith}
-use mathlib.Core.Path.{_≡_}
 use mathlib.Core.List.{[], _∷_}
 use lib.ListN.{length-append}
 use mir.Syntax.{w64}

@@ -1,10 +1,9 @@
 -- `put_number` writes the numeral: a minus where the test v < 0 holds, then the digits of the absolute value.
 use borrow.Author.Needs.{needs}
 use native.Mathlib.Omega.{arith}
-use mathlib.Core.Path.{_≡_, sym, ap, _∙_}
-use mathlib.Core.Bool.{true, false}
+use mathlib.Core.Path.{_≡_, ap, _∙_}
 use Prim.Native.Nat.{ℕ}
-use lib.IntN.{ℤ, natAbs, pos}
+use lib.IntN.{natAbs}
 use lib.ListN.{length}
 use mir.Syntax.{w64}
 use mir.ValLaws.{toZ-ofZ}
@@ -30,21 +29,21 @@ put-digits-requires : tie.Need-put-digits-requires
 put-digits-requires c κs =
     let s = c .before .before .before .before .before .before .before .before in
     let f = c .before .before .before .put-byte in
-    omega
-    ( arith
-    , ap length (numeral-below (s .args .v) (s .fits .v) (c .before .before .before .before .before .if1 .taken))
-    , ap (λ (m : ℕ). length (decimal 10 m)) (size-is (c .before .before .before .before .before .before))
-    , f .ensures .ends
-    , f .kept .0
+    omega (
+      arith,
+      ap length (numeral-below (s .args .v) (s .fits .v) (c .before .before .before .before .before .if1 .taken)),
+      ap (λ (m : ℕ). length (decimal 10 m)) (size-is (c .before .before .before .before .before .before)),
+      f .ensures .ends,
+      f .kept .0,
     )
 
 put-digits-requires-2 : tie.Need-put-digits-requires-2
 put-digits-requires-2 c κs =
     let s = c .before .before .before .before in
-    omega
-    ( arith
-    , ap length (numeral-above (s .args .v) (s .fits .v) (c .before .if1 .left))
-    , ap (λ (m : ℕ). length (decimal 10 m)) (size-is (c .before .before))
+    omega (
+      arith,
+      ap length (numeral-above (s .args .v) (s .fits .v) (c .before .if1 .left)),
+      ap (λ (m : ℕ). length (decimal 10 m)) (size-is (c .before .before)),
     )
 
 same-length : tie.Need-same-length

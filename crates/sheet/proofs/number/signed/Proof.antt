@@ -1,31 +1,24 @@
+-- `signed` casts the magnitude and negates it: ten digits fit.
 use borrow.Author.Needs.{needs}
 use mir.Syntax.{w64}
 use mir.ValLaws.{toZ-pos}
 use native.Mathlib.Omega.{arith}
-use mathlib.Core.Path.{_∙_}
 use Rattle.sheet.proofs.Signs.{negated-fits, negated-is}
 use Rattle.sheet.proofs.number.signed.Statement.{statement}
 use Rattle.sheet.proofs.number.signed.Tie as tie
-use Rattle.sheet.proofs.number.signed.Reads as reads
-use Rattle.sheet.proofs.number.signed.Lts as lts
 
--- src/lib.rt:62:14
 cast-result : tie.Need-cast-result
 cast-result c = search needs
 
--- src/lib.rt:62:9
 sub-result : tie.Need-sub-result
 sub-result c = negated-fits (c .before .args .v) (omega arith)
 
--- src/lib.rt:64:9
 cast-result-2 : tie.Need-cast-result-2
 cast-result-2 c = search needs
 
--- src/lib.rt:57:1
 returns : tie.Need-returns
 returns c = rw (c .if1 .taken) (negated-is (c .before .args .v) (omega arith))
 
--- src/lib.rt:57:1
 returns-2 : tie.Need-returns-2
 returns-2 c = rw (c .if1 .left) (toZ-pos w64 (c .before .args .v) (omega arith))
 

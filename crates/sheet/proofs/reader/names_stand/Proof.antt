@@ -1,23 +1,10 @@
 -- `names_stand` compares the names of the kind of line.
-use borrow.Author.Needs.{needs, sfits-of}
-use native.Mathlib.Omega.{arith}
-use mathlib.Core.Path.{_≡_, refl, sym, ap, _∙_}
-use mathlib.Core.Bool.{Bool, true, false}
-use mathlib.Core.List.{List, [], _∷_, _++_}
-use Prim.Native.Nat.{ℕ, suc, _≤_, _<_, _-_, _+_, _*_, _^_}
-use borrow.Author.Tests.{lt-ltb, le-ltb, le-leb, lt-leb, eq-eqb, ne-eqb}
-use lib.ListN.{length, drop, getD, take, set, length-set}
-use lib.IntN.{ℤ, pos, negsuc}
-use mir.Syntax.{w64}
-use mir.Val.{SFits, toZ, ofZ}
-use mir.ValLaws.{toZ-ofZ}
+use borrow.Author.Needs.{needs}
+use Prim.Native.Nat.{_-_}
 use Rattle.sheet.specs.Lines.{names}
 use Rattle.sheet.specs.Reading.{starts}
 use Rattle.sheet.proofs.reader.names_stand.Statement.{statement}
 use Rattle.sheet.proofs.reader.names_stand.Tie as tie
-use Rattle.sheet.proofs.reader.names_stand.Reads as reads
-use Rattle.sheet.proofs.reader.names_stand.Lts as lts
-use Rattle.sheet.proofs.fields.stands.Reads as stands-reads
 
 enum-told : tie.Need-enum-told
 enum-told c = search needs

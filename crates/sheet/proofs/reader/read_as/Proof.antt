@@ -1,36 +1,12 @@
 -- `read_as` looks for the names, or reads the numbers.
-use borrow.Author.Needs.{needs, sfits-of}
+use borrow.Author.Needs.{needs}
 use native.Mathlib.Omega.{arith}
-use mathlib.Core.Path.{_≡_, refl, sym, ap, _∙_}
-use mathlib.Core.Bool.{Bool, true, false}
-use mathlib.Core.List.{List, [], _∷_, _++_}
-use Prim.Native.Nat.{ℕ, suc, _≤_, _<_, _-_, _+_, _*_, _^_}
-use borrow.Author.Tests.{lt-ltb, le-ltb, le-leb, lt-leb, eq-eqb, ne-eqb}
-use lib.ListN.{length, drop, getD, take, set, length-set}
-use lib.IntN.{ℤ, pos, negsuc}
-use mir.Syntax.{w64}
-use mir.Val.{SFits, toZ, ofZ}
-use mir.ValLaws.{toZ-ofZ}
-use Rattle.sheet.specs.Lines.{width, store}
-use Rattle.sheet.specs.Lines as Spec
-use Rattle.sheet.specs.Reading.{fieldsAt, valuesRead, partRead, partRefused}
-use Rattle.sheet.specs.Causes.{refusal, lineBroken}
-use Rattle.sheet.specs.declared.fields.Fields.{Fields}
-use Rattle.sheet.specs.declared.Schedule.{Schedule}
-use mir.Val.{Fits}
-use Rattle.sheet.specs.Lines.{names}
-use Rattle.sheet.specs.Reading.{starts, readAs}
+use mathlib.Core.Path.{_≡_, sym, _∙_}
+use Prim.Native.Nat.{_-_}
+use Rattle.sheet.specs.Lines.{width, names}
 use Rattle.sheet.proofs.LineRead.{names-read, names-broken, values-are, starts-within}
 use Rattle.sheet.proofs.reader.read_as.Statement.{statement}
 use Rattle.sheet.proofs.reader.read_as.Tie as tie
-use Rattle.sheet.proofs.reader.read_as.Reads as reads
-use Rattle.sheet.proofs.reader.read_as.Lts as lts
-use Rattle.sheet.proofs.lines.width.Reads as width-reads
-use Rattle.sheet.proofs.reader.names_length.Reads as names-length-reads
-use Rattle.sheet.proofs.reader.names_stand.Reads as names-stand-reads
-use Rattle.sheet.proofs.reader.part_read.Reads as part-read-reads
-use Rattle.sheet.proofs.reader.read_values.Reads as read-values-reads
-use Rattle.sheet.proofs.reader.refused.Reads as refused-reads
 
 width-requires : tie.Need-width-requires
 width-requires c κs = search needs

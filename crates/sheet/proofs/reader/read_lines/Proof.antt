@@ -1,30 +1,16 @@
 -- `read_lines` reads line after line: what it answers from the start is what it answers from here.
-use borrow.Author.Needs.{needs, sfits-of}
+use borrow.Author.Needs.{needs}
 use native.Mathlib.Omega.{arith}
 use mathlib.Core.Path.{_≡_, refl, sym, ap, _∙_}
-use mathlib.Core.Bool.{Bool, true, false}
-use mathlib.Core.List.{List, [], _∷_, _++_}
-use Prim.Native.Nat.{ℕ, suc, _≤_, _<_, _-_, _+_, _*_, _^_}
-use borrow.Author.Tests.{lt-ltb, le-ltb, le-leb, lt-leb, eq-eqb, ne-eqb}
-use lib.ListN.{length, drop, getD, take, set, length-set}
-use lib.IntN.{ℤ, pos, negsuc}
+use Prim.Native.Nat.{_≤_, _-_, _+_}
 use mir.Syntax.{w64}
-use mir.Val.{SFits, toZ, ofZ}
-use mir.ValLaws.{toZ-ofZ}
-use Rattle.sheet.specs.Lines.{natural, lineAt, lineOf}
-use Rattle.sheet.specs.Reading.{readLines, readLine, readAs, partRead}
-use Rattle.sheet.specs.declared.Schedule.{Schedule}
-use Rattle.sheet.specs.declared.Line.{Line}
+use mir.Val.{toZ, ofZ}
+use Rattle.sheet.specs.Lines.{natural, lineAt}
+use Rattle.sheet.specs.Reading.{readLines, readLine}
 use Rattle.sheet.specs.declared.reader.Part.{Part}
 use Rattle.sheet.proofs.LineRead.{PartRead, line-read, lines-more, lines-stop, lines-done}
 use Rattle.sheet.proofs.reader.read_lines.Statement.{statement}
 use Rattle.sheet.proofs.reader.read_lines.Tie as tie
-use Rattle.sheet.proofs.reader.read_lines.Reads as reads
-use Rattle.sheet.proofs.reader.read_lines.Lts as lts
-use Rattle.sheet.proofs.lines.line_of.Reads as line-of-reads
-use Rattle.sheet.proofs.lines.natural.Reads as natural-reads
-use Rattle.sheet.proofs.reader.part_read.Reads as part-read-reads
-use Rattle.sheet.proofs.reader.read_as.Reads as read-as-reads
 
 abbrev Inv-loop : tie.InvT-loop
 Inv-loop s at first count p₀ i₀ p i = (i ≤ count) × PartRead s p × (readLines count first (p₀ .schedule) s (p₀ .next) ≡ readLines (count - i) (first + i) (p .schedule) s (p .next))

@@ -1,33 +1,15 @@
 -- `read_sheet` reads the counts, then the lines that they ask for, then looks for the end.
-use borrow.Author.Needs.{needs, sfits-of}
+use borrow.Author.Needs.{needs}
 use native.Mathlib.Omega.{arith}
-use mathlib.Core.Path.{_≡_, refl, sym, ap, _∙_}
-use mathlib.Core.Bool.{Bool, true, false}
-use mathlib.Core.List.{List, [], _∷_, _++_}
-use Prim.Native.Nat.{ℕ, suc, _≤_, _<_, _-_, _+_, _*_, _^_}
-use borrow.Author.Tests.{lt-ltb, le-ltb, le-leb, lt-leb, eq-eqb, ne-eqb}
-use lib.ListN.{length, drop, getD, take, set, length-set}
-use lib.IntN.{ℤ, pos, negsuc}
-use mir.Syntax.{w64}
-use mir.Val.{SFits, toZ, ofZ}
-use mir.ValLaws.{toZ-ofZ}
+use mathlib.Core.Path.{_≡_, sym, ap, _∙_}
+use Prim.Native.Nat.{_≤_, _-_}
 use Rattle.sheet.specs.Lines.{zeroSchedule, linesLeft}
-use Rattle.sheet.specs.Reading.{readLines, readSheet, partRead, partRefused}
-use Rattle.sheet.specs.Causes.{lineBroken}
-use Rattle.sheet.specs.declared.Schedule.{Schedule}
 use Rattle.sheet.specs.declared.reader.Part.{Part}
-use mir.Val.{Fits}
-use Rattle.sheet.proofs.LineRead.{PartRead, lines-read, firstPart, secondPart, sheet-first, sheet-second, sheet-ends, sheet-goes-on}
+use Rattle.sheet.proofs.LineRead.{lines-read, firstPart, secondPart, sheet-first, sheet-second, sheet-ends, sheet-goes-on}
 use Rattle.sheet.proofs.CountsRead.{FirstAre, first-sound}
 use Rattle.sheet.proofs.Passed.{lines-left-small}
 use Rattle.sheet.proofs.reader.read_sheet.Statement.{statement}
 use Rattle.sheet.proofs.reader.read_sheet.Tie as tie
-use Rattle.sheet.proofs.reader.read_sheet.Reads as reads
-use Rattle.sheet.proofs.reader.read_sheet.Lts as lts
-use Rattle.sheet.proofs.lines.lines_left.Reads as lines-left-reads
-use Rattle.sheet.proofs.reader.read_lines.Reads as read-lines-reads
-use Rattle.sheet.proofs.reader.refused.Reads as refused-reads
-use Rattle.sheet.proofs.zero_schedule.Reads as zero-schedule-reads
 
 -- what the two runs of lines made
 first-is : (c : tie.After-read-lines) → c .read-lines .result ≡ firstPart (c .before .before .before .args .s .now)

@@ -1,33 +1,15 @@
 -- `read_values` tests the layout, then the meaning.
-use borrow.Author.Needs.{needs, sfits-of}
-use native.Mathlib.Omega.{arith}
-use mathlib.Core.Path.{_≡_, refl, sym, ap, _∙_}
-use mathlib.Core.Bool.{Bool, true, false}
-use mathlib.Core.List.{List, [], _∷_, _++_}
-use Prim.Native.Nat.{ℕ, suc, _≤_, _<_, _-_, _+_, _*_, _^_}
-use borrow.Author.Tests.{lt-ltb, le-ltb, le-leb, lt-leb, eq-eqb, ne-eqb}
-use lib.ListN.{length, drop, getD, take, set, length-set}
-use lib.IntN.{ℤ, pos, negsuc}
-use mir.Syntax.{w64}
-use mir.Val.{SFits, toZ, ofZ}
-use mir.ValLaws.{toZ-ofZ}
+use borrow.Author.Needs.{needs}
+use mathlib.Core.Path.{_≡_, sym, ap, _∙_}
+use Prim.Native.Nat.{ℕ, _-_}
 use Rattle.sheet.specs.Lines.{width, store}
 use Rattle.sheet.specs.Lines as Spec
 use Rattle.sheet.specs.Reading.{fieldsAt, valuesRead, partRead, partRefused}
-use Rattle.sheet.specs.Causes.{refusal, lineBroken}
-use Rattle.sheet.specs.declared.fields.Fields.{Fields}
+use Rattle.sheet.specs.Causes.{refusal}
 use Rattle.sheet.specs.declared.Schedule.{Schedule}
 use Rattle.sheet.proofs.LineRead.{values-read, values-faulty, values-broken, width-small}
 use Rattle.sheet.proofs.reader.read_values.Statement.{statement}
 use Rattle.sheet.proofs.reader.read_values.Tie as tie
-use Rattle.sheet.proofs.reader.read_values.Reads as reads
-use Rattle.sheet.proofs.reader.read_values.Lts as lts
-use Rattle.sheet.proofs.fields.fields_at.Reads as fields-at-reads
-use Rattle.sheet.proofs.lines.fault.Reads as fault-reads
-use Rattle.sheet.proofs.lines.store.Reads as store-reads
-use Rattle.sheet.proofs.lines.width.Reads as width-reads
-use Rattle.sheet.proofs.reader.part_read.Reads as part-read-reads
-use Rattle.sheet.proofs.reader.refused.Reads as refused-reads
 
 -- what `fields_at` read is the line at the position
 fields-are : (c : tie.After-fields-at) → c .fields-at .result ≡ fieldsAt (c .before .before .before .args .s .now) (c .before .before .before .args .at) (width (c .before .before .before .args .l))

@@ -1,30 +1,16 @@
 -- `fault_at` tests the numbers of the line.
-use borrow.Author.Needs.{needs, sfits-of}
-use native.Mathlib.Omega.{arith}
-use mathlib.Core.Path.{_≡_, refl, sym, ap, _∙_}
-use mathlib.Core.Bool.{Bool, true, false}
-use mathlib.Core.List.{List, [], _∷_, _++_}
-use Prim.Native.Nat.{ℕ, suc, _≤_, _<_, _-_, _+_, _*_, _^_}
-use borrow.Author.Tests.{lt-ltb, le-ltb, le-leb, lt-leb, eq-eqb, ne-eqb}
-use lib.ListN.{length, drop, getD, take, set, length-set}
-use lib.IntN.{ℤ, pos, negsuc}
+use borrow.Author.Needs.{needs}
+use mathlib.Core.Path.{_≡_, ap, _∙_}
+use Prim.Native.Nat.{_-_}
 use mir.Syntax.{w64}
-use mir.Val.{SFits, toZ, ofZ}
-use mir.ValLaws.{toZ-ofZ}
-use Rattle.sheet.specs.Lines.{natural, lineAt, lineOf}
+use mir.Val.{toZ, ofZ}
+use Rattle.sheet.specs.Lines.{natural, lineAt}
 use Rattle.sheet.specs.Lines as Spec
-use Rattle.sheet.specs.Reading.{padded}
 use Rattle.sheet.specs.Writing.{faultAt}
 use Rattle.sheet.specs.declared.Line.{Line}
 use Rattle.sheet.proofs.SheetText.{fault-padded}
 use Rattle.sheet.proofs.writer.fault_at.Statement.{statement}
 use Rattle.sheet.proofs.writer.fault_at.Tie as tie
-use Rattle.sheet.proofs.writer.fault_at.Reads as reads
-use Rattle.sheet.proofs.writer.fault_at.Lts as lts
-use Rattle.sheet.proofs.lines.fault.Reads as fault-reads
-use Rattle.sheet.proofs.lines.line_of.Reads as line-of-reads
-use Rattle.sheet.proofs.lines.natural.Reads as natural-reads
-use Rattle.sheet.proofs.lines.numbers.Reads as numbers-reads
 
 natural-requires : tie.Need-natural-requires
 natural-requires c κs = search needs

@@ -1,27 +1,14 @@
 -- `put_line` writes the names or the numbers of the kind of line.
-use borrow.Author.Needs.{needs, sfits-of}
+use borrow.Author.Needs.{needs}
 use native.Mathlib.Omega.{arith}
-use mathlib.Core.Path.{_≡_, refl, sym, ap, _∙_}
-use mathlib.Core.Bool.{Bool, true, false}
-use mathlib.Core.List.{List, [], _∷_, _++_}
-use Prim.Native.Nat.{ℕ, suc, _≤_, _<_, _-_, _+_, _*_, _^_}
-use borrow.Author.Tests.{lt-ltb, le-ltb, le-leb, lt-leb, eq-eqb, ne-eqb}
-use lib.ListN.{length, drop, getD, take, set, length-set}
-use lib.IntN.{ℤ, pos, negsuc}
-use mir.Syntax.{w64}
-use mir.Val.{SFits, toZ, ofZ}
-use mir.ValLaws.{toZ-ofZ}
+use mathlib.Core.Path.{_≡_, ap}
+use Prim.Native.Nat.{_-_}
+use lib.ListN.{length, take}
 use Rattle.sheet.specs.Text.{line}
 use Rattle.sheet.specs.Lines.{lineText, numbers}
-use Rattle.sheet.specs.Reading.{padded}
 use Rattle.sheet.specs.declared.Line.{Line}
 use Rattle.sheet.proofs.writer.put_line.Statement.{statement}
 use Rattle.sheet.proofs.writer.put_line.Tie as tie
-use Rattle.sheet.proofs.writer.put_line.Reads as reads
-use Rattle.sheet.proofs.writer.put_line.Lts as lts
-use Rattle.sheet.proofs.fields.put_bytes.Reads as put-bytes-reads
-use Rattle.sheet.proofs.fields.put_fields.Reads as put-fields-reads
-use Rattle.sheet.proofs.lines.numbers.Reads as numbers-reads
 
 enum-told : tie.Need-enum-told
 enum-told c = search needs
@@ -31,7 +18,7 @@ slice-aggregate-put-bytes c = search needs
 
 put-bytes-requires : tie.Need-put-bytes-requires
 unfolding lineText numbers
-put-bytes-requires c κs =     omega (arith, ap (λ (l : Line). length (lineText l (numbers (c .before .before .before .before .before .args .c) l))) (c .before .before .enum-told .given .1))
+put-bytes-requires c κs = omega (arith, ap (λ (l : Line). length (lineText l (numbers (c .before .before .before .before .before .args .c) l))) (c .before .before .enum-told .given .1))
 
 enum-told-2 : tie.Need-enum-told-2
 enum-told-2 c = search needs
@@ -41,7 +28,7 @@ slice-aggregate-put-bytes-2 c = search needs
 
 put-bytes-requires-2 : tie.Need-put-bytes-requires-2
 unfolding lineText numbers
-put-bytes-requires-2 c κs =     omega (arith, ap (λ (l : Line). length (lineText l (numbers (c .before .before .before .before .before .args .c) l))) (c .before .before .enum-told2 .given .1))
+put-bytes-requires-2 c κs = omega (arith, ap (λ (l : Line). length (lineText l (numbers (c .before .before .before .before .before .args .c) l))) (c .before .before .enum-told2 .given .1))
 
 enum-told-3 : tie.Need-enum-told-3
 enum-told-3 c = search needs
@@ -51,7 +38,7 @@ slice-aggregate-put-bytes-3 c = search needs
 
 put-bytes-requires-3 : tie.Need-put-bytes-requires-3
 unfolding lineText numbers
-put-bytes-requires-3 c κs =     omega (arith, ap (λ (l : Line). length (lineText l (numbers (c .before .before .before .before .before .args .c) l))) (c .before .before .enum-told3 .given .1))
+put-bytes-requires-3 c κs = omega (arith, ap (λ (l : Line). length (lineText l (numbers (c .before .before .before .before .before .args .c) l))) (c .before .before .enum-told3 .given .1))
 
 enum-told-4 : tie.Need-enum-told-4
 enum-told-4 c = search needs

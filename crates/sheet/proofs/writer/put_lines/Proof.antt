@@ -1,29 +1,18 @@
 -- `put_lines` writes line after line: the first i lines stand at the start.
-use borrow.Author.Needs.{needs, sfits-of}
+use borrow.Author.Needs.{needs}
 use native.Mathlib.Omega.{arith}
-use mathlib.Core.Path.{_≡_, refl, sym, ap, _∙_}
-use mathlib.Core.Bool.{Bool, true, false}
-use mathlib.Core.List.{List, [], _∷_, _++_}
-use Prim.Native.Nat.{ℕ, suc, _≤_, _<_, _-_, _+_, _*_, _^_}
-use borrow.Author.Tests.{lt-ltb, le-ltb, le-leb, lt-leb, eq-eqb, ne-eqb}
-use lib.ListN.{length, drop, getD, take, set, length-set}
-use lib.IntN.{ℤ, pos, negsuc}
+use mathlib.Core.Path.{_≡_, refl, ap, _∙_}
+use Prim.Native.Nat.{_≤_, _-_, _+_}
+use lib.ListN.{length}
 use mir.Syntax.{w64}
-use mir.Val.{SFits, toZ, ofZ}
-use mir.ValLaws.{toZ-ofZ}
-use Rattle.sheet.specs.Lines.{natural, lineAt, lineOf, lineText, numbers}
+use mir.Val.{toZ, ofZ}
+use Rattle.sheet.specs.Lines.{natural, lineText, numbers}
 use Rattle.sheet.specs.Writing.{linesText, textAt}
 use Rattle.sheet.specs.Wrote.{Wrote}
-use Rattle.sheet.specs.declared.Line.{Line}
 use Rattle.sheet.proofs.Written.{wrote-then}
 use Rattle.sheet.proofs.SheetText.{text-more, text-room}
 use Rattle.sheet.proofs.writer.put_lines.Statement.{statement}
 use Rattle.sheet.proofs.writer.put_lines.Tie as tie
-use Rattle.sheet.proofs.writer.put_lines.Reads as reads
-use Rattle.sheet.proofs.writer.put_lines.Lts as lts
-use Rattle.sheet.proofs.lines.line_of.Reads as line-of-reads
-use Rattle.sheet.proofs.lines.natural.Reads as natural-reads
-use Rattle.sheet.proofs.writer.put_line.Reads as put-line-reads
 
 abbrev Inv-loop : tie.InvT-loop
 Inv-loop out₀ c count inputs p₀ i₀ out p i = (i ≤ count) × (length out ≡ length out₀) × Wrote out₀ out 0 p (linesText i 1 c)
@@ -70,10 +59,10 @@ loop-again c =
     let l = c .before .before .before .before .before .before .loop in
     let a = c .before .before .before .before .before .before .before .before .before .before .args in
     let f = c .before .before .put-line in
-    let n : 1 + l .i ≡ l .i + 1 = omega arith in
-    ( omega arith
-    , f .kept .0 ∙ l .inv .1
-    , rw (text-more (l .i) 1 (a .c), n) (wrote-then (l .inv .2) (rw (text-is (c .before .before .before)) at (f .ensures)))
+    let n : 1 + l .i ≡ l .i + 1 = omega arith in (
+      omega arith,
+      f .kept .0 ∙ l .inv .1,
+      rw (text-more (l .i) 1 (a .c), n) (wrote-then (l .inv .2) (rw (text-is (c .before .before .before)) at (f .ensures))),
     )
 
 same-length : tie.Need-same-length Inv-loop μ-loop

@@ -1,24 +1,13 @@
 -- `test_lines` tests line after line: what it answers from the start is what it answers from here.
-use borrow.Author.Needs.{needs, sfits-of}
+use borrow.Author.Needs.{needs}
 use native.Mathlib.Omega.{arith}
-use mathlib.Core.Path.{_≡_, refl, sym, ap, _∙_}
-use mathlib.Core.Bool.{Bool, true, false}
-use mathlib.Core.List.{List, [], _∷_, _++_}
-use Prim.Native.Nat.{ℕ, suc, _≤_, _<_, _-_, _+_, _*_, _^_}
-use borrow.Author.Tests.{lt-ltb, le-ltb, le-leb, lt-leb, eq-eqb, ne-eqb}
-use lib.ListN.{length, drop, getD, take, set, length-set}
-use lib.IntN.{ℤ, pos, negsuc}
-use mir.Syntax.{w64}
-use mir.Val.{SFits, toZ, ofZ}
-use mir.ValLaws.{toZ-ofZ}
-use Rattle.sheet.specs.Writing.{faultAt, testLines}
+use mathlib.Core.Path.{_≡_, sym, ap, _∙_}
+use Prim.Native.Nat.{ℕ, _≤_, _-_, _+_}
+use Rattle.sheet.specs.Writing.{testLines}
 use Rattle.sheet.specs.Causes.{refusal}
 use Rattle.sheet.proofs.SheetText.{test-more, test-stop, test-done}
 use Rattle.sheet.proofs.writer.test_lines.Statement.{statement}
 use Rattle.sheet.proofs.writer.test_lines.Tie as tie
-use Rattle.sheet.proofs.writer.test_lines.Reads as reads
-use Rattle.sheet.proofs.writer.test_lines.Lts as lts
-use Rattle.sheet.proofs.writer.fault_at.Reads as fault-at-reads
 
 abbrev Inv-loop : tie.InvT-loop
 Inv-loop c first count i₀ i = (i ≤ count) × (testLines count first c ≡ testLines (count - i) (first + i) c)
