@@ -1,7 +1,8 @@
-"""What the program `row_examples` must print: P1 to P11 of document 01, row by row.
+"""What the program `row_examples` must print: P1 to P13 of document 01, row by row.
 
-    python3 checker/row_cases.py > crates/row_examples/stdout
-    python3 checker/row_cases.py refusals > ...      (with P12 and P13 behind them)
+    python3 checker/row_cases.py crates/row_examples
+
+writes `stdout` into the folder given.
 
 One line for each example, its fields separated by one space: the label (`P1`); then `refused 6` or
 `refused 7`, or the 52 numbers of the resulting row (centre, 30 linear coefficients, 21 pair
@@ -25,6 +26,7 @@ Which row owns which symbol (row r owns symbol r):
 import sys
 
 import rows
+import stored
 
 
 def input_alone(low, high):
@@ -61,9 +63,6 @@ EXAMPLES = [
     ("P9", square_of_input(4096, 8192, 0)),
     ("P10", reciprocal_of_input(4096, 8192, 1)),
     ("P11", reciprocal_of_input(4096, 8192, 0)),
-]
-
-REFUSALS = [
     ("P12a", reciprocal_of_input(1, 2, 0)),
     ("P12b", reciprocal_of_input(1, 3, 0)),
     ("P13a", product_of_constants(268_435_456, 16_384)),
@@ -86,5 +85,4 @@ def files() -> dict[str, bytes]:
 
 
 if __name__ == "__main__":
-    for label, work in EXAMPLES + (REFUSALS if sys.argv[1:] == ["refusals"] else []):
-        print(example_line(label, work))
+    stored.write(sys.argv[1], files())

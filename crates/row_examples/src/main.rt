@@ -1,0 +1,139 @@
+// P1 to P13 of document 01 over `affine`, a line for each: the numbers of the row and its range, or the refusal. `checker/row_cases.py` says
+// which row owns which symbol, and makes the same lines.
+use affine::Answer;
+use affine::Row;
+use affine::Status;
+use affine::limits::PAIRS;
+use affine::limits::SYMBOLS;
+use libc::STDOUT_FILENO;
+ghost use Prim.Native.Nat.{_≤_, _<_};
+ghost use lib.IntN.{natAbs};
+ghost use Rattle.affine.specs.Limits.{symbols, paired, spanLimit};
+ghost use Rattle.affine.specs.Row.{span};
+
+fn print_number(z: i64) {
+    io::write_all(STDOUT_FILENO, b" ");
+    if z < 0 {
+        io::write_all(STDOUT_FILENO, b"-");
+    }
+    io::print_decimal(STDOUT_FILENO, integer::magnitude::absolute(z));
+}
+
+fn print_linear(linear: [i64; SYMBOLS]) {
+    for i in 0..SYMBOLS {
+        let v = linear[i];
+        print_number(v);
+    }
+}
+
+fn print_pairs(pair: [i64; PAIRS]) {
+    for k in 0..PAIRS {
+        let v = pair[k];
+        print_number(v);
+    }
+}
+
+fn print_row(row: Row)
+    requires { ⌜ span row ≤ spanLimit ⌝ }
+{
+    let linear = row.linear;
+    let pair = row.pair;
+    print_number(row.centre);
+    print_linear(linear);
+    print_pairs(pair);
+    let range = affine::range::range_of(row);
+    print_number(range.low);
+    print_number(range.high);
+}
+
+fn print_refused(number: i64) {
+    io::write_all(STDOUT_FILENO, b" refused");
+    print_number(number);
+}
+
+fn print_example(label: &[u8], answer: Answer)
+    requires { ⌜ span (answer .row) ≤ spanLimit ⌝ }
+{
+    io::write_all(STDOUT_FILENO, label);
+    let status = answer.status;
+    let row = answer.row;
+    match status {
+        Status::Accepted => print_row(row),
+        Status::SpanPassed => print_refused(6),
+        Status::ZeroInRange => print_refused(7),
+    }
+    io::write_all(STDOUT_FILENO, b"\n");
+}
+
+fn constant_row(value: i64) -> Row
+    ensures { λ r. ⌜ span r ≤ spanLimit ⌝ }
+{
+    let answer = affine::steps::constant(value);
+    answer.row
+}
+
+// The input is row 1.
+fn input(low: i64, high: i64) -> Answer
+    requires { ⌜ (natAbs low ≤ spanLimit) × (natAbs high ≤ spanLimit) ⌝ }
+    ensures { λ r. ⌜ span (r .row) ≤ spanLimit ⌝ }
+{
+    affine::steps::input(0, low, high)
+}
+
+fn print_product(label: &[u8], x: Row, y: Row, squares: usize, own: usize)
+    requires { ⌜ (span x ≤ spanLimit) × (span y ≤ spanLimit) × (squares ≤ paired) × (own < symbols) ⌝ }
+{
+    print_example(label, affine::product::multiply(x, y, squares, own));
+}
+
+fn print_reciprocal(label: &[u8], x: Row, squares: usize, own: usize)
+    requires { ⌜ (span x ≤ spanLimit) × (squares ≤ paired) × (own < symbols) ⌝ }
+{
+    print_example(label, affine::reciprocal::invert(x, squares, own));
+}
+
+// Behind an input come the constants, rows 2 and 3: the product is row 4.
+fn product_of_constants(label: &[u8], first: i64, second: i64) {
+    print_product(label, constant_row(first), constant_row(second), 0, 3);
+}
+
+// Behind an input comes the constant, row 2: the reciprocal is row 3.
+fn reciprocal_of_constant(label: &[u8], value: i64) {
+    print_reciprocal(label, constant_row(value), 0, 2);
+}
+
+// The product of an input with itself is row 2.
+fn square_of_input(label: &[u8], low: i64, high: i64, squares: usize)
+    requires { ⌜ (natAbs low ≤ spanLimit) × (natAbs high ≤ spanLimit) × (squares ≤ paired) ⌝ }
+{
+    let answer = input(low, high);
+    let x = answer.row;
+    print_product(label, x, x, squares, 1);
+}
+
+// The reciprocal of an input is row 2.
+fn reciprocal_of_input(label: &[u8], low: i64, high: i64, squares: usize)
+    requires { ⌜ (natAbs low ≤ spanLimit) × (natAbs high ≤ spanLimit) × (squares ≤ paired) ⌝ }
+{
+    let answer = input(low, high);
+    let x = answer.row;
+    print_reciprocal(label, x, squares, 1);
+}
+
+fn main() {
+    print_example(b"P1", input(0, 1));
+    print_example(b"P2", input(-1, 0));
+    product_of_constants(b"P3", 1, 1);
+    product_of_constants(b"P4", -1, 1);
+    reciprocal_of_constant(b"P5", 8192);
+    reciprocal_of_constant(b"P6", 12288);
+    reciprocal_of_constant(b"P7", -12288);
+    square_of_input(b"P8", 4096, 8192, 1);
+    square_of_input(b"P9", 4096, 8192, 0);
+    reciprocal_of_input(b"P10", 4096, 8192, 1);
+    reciprocal_of_input(b"P11", 4096, 8192, 0);
+    reciprocal_of_input(b"P12a", 1, 2, 0);
+    reciprocal_of_input(b"P12b", 1, 3, 0);
+    product_of_constants(b"P13a", 268435456, 16384);
+    product_of_constants(b"P13b", 268435456, 16385);
+}
