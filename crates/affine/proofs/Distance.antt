@@ -1,6 +1,6 @@
 -- A range that does not hold 0, by the two tests of the code: which reciprocal it gives, and that the centre outweighs the linear
 -- coefficients by at least its distance from 0.
-use mathlib.Core.Path.{_≡_, refl, sym, ap, _∙_}
+use mathlib.Core.Path.{_≡_, refl, ap, _∙_}
 use mathlib.Core.Bool.{true, false}
 use Prim.Native.Nat.{ℕ, suc, _+_, _≤_, _<_}
 use native.Mathlib.Omega.{arith}

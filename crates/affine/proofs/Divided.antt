@@ -1,20 +1,19 @@
--- Totals divided one after another under the rounding rule of a product: the quotients stored so far, over zeros, and the sum of the
--- absolute remainders so far. A total 0 may be passed over.
+-- Totals divided one after another under the rounding rule of a product: the quotients stored so far, and the sum of the absolute
+-- remainders so far.
 use mathlib.Core.Path.{_≡_, refl, sym, ap, ap₂, _∙_}
 use mathlib.Core.List.{List, [], _∷_, map}
-use Prim.Native.Nat.{ℕ, zero, _+_, _*_, _≤_, _<_}
-use native.Mathlib.Nat.{add-zero}
+use Prim.Native.Nat.{ℕ, _+_, _*_, _≤_, _<_}
 use native.Mathlib.Omega.{arith}
 use lib.IntN.{ℤ, pos, natAbs}
-use lib.ListN.{length, take, set, replicate, length-map, List·getD-map}
+use lib.ListN.{length, take, set, replicate, length-map, length-replicate, List·getD-map}
 use Rattle.integer.specs.Floor.{floorQuotient, floorRemainder}
 use Rattle.integer.specs.Sum.{sumAbs}
-use Rattle.integer.proofs.Floor.{natAbs-remainder, zero-quotient}
+use Rattle.integer.proofs.Floor.{natAbs-remainder}
 use Rattle.integer.proofs.Sum.{sumAbs-more}
 use Rattle.affine.specs.Limits.{unit}
 use Rattle.affine.specs.Lists.{at}
 use Rattle.affine.specs.Product.{productRounding}
-use Rattle.affine.proofs.Fill.{FilledOverZeros, over-zeros-none, over-zeros-more, over-zeros-skip, filled-all}
+use Rattle.affine.proofs.Fill.{Filled, filled-none, filled-more, filled-all}
 use Rattle.affine.proofs.SumLaws.{sumAbs-all}
 
 abbrev pub quotients : List ℤ → List ℤ
@@ -31,10 +30,6 @@ at-remainders : (t : List ℤ) (i : ℕ) → at (remainders t) i ≡ productRoun
 unfolding floorQuotient floorRemainder
 at-remainders t i = List·getD-map (productRounding .remainder) t i (pos 0)
 
-remainder-of-zero : natAbs (productRounding .remainder (pos 0)) ≡ 0
-unfolding floorQuotient floorRemainder
-remainder-of-zero = refl
-
 pub remainder-small : (t : ℤ) → natAbs (productRounding .remainder t) < unit
 remainder-small t = natAbs-remainder t (pos unit) (λ e. let z : _≡_ {A = ℕ} 0 1 = cc in omega arith)
 
@@ -43,12 +38,12 @@ remainders-within [] = omega arith
 remainders-within (x ∷ t) = let h = remainders-within t in omega (arith, remainder-small x)
 
 pub record Divided (n : ℕ) (t values : List ℤ) (left i : ℕ) : Type 0 where
-  pub stored : FilledOverZeros n (quotients t) values i
+  pub stored : Filled n (quotients t) values i
   pub summed : left ≡ sumAbs (take i (remainders t))
   pub small : left ≤ unit * i
 
 pub divided-none : (n : ℕ) (t : List ℤ) → Divided n t (replicate n (pos 0)) 0 0
-divided-none n t = record { stored = over-zeros-none n (quotients t); summed = refl; small = omega arith }
+divided-none n t = record { stored = filled-none n (quotients t) (replicate n (pos 0)) (length-replicate n (pos 0)); summed = refl; small = omega arith }
 
 module _ {n : ℕ} {t values : List ℤ} {left i : ℕ} (long : length t ≡ n) (d : Divided n t values left i) where
   next-sum : i < n → sumAbs (take (i + 1) (remainders t)) ≡ left + natAbs (productRounding .remainder (at t i))
@@ -61,22 +56,13 @@ module _ {n : ℕ} {t values : List ℤ} {left i : ℕ} (long : length t ≡ n) 
   divided-more {q} {m} h eq em =
       let s = remainder-small (at t i) in
       record {
-        stored = over-zeros-more (length-map t _ ∙ long) (d .stored) h (eq ∙ sym (at-quotients t i));
+        stored = filled-more (length-map t _ ∙ long) (d .stored) h (eq ∙ sym (at-quotients t i));
         summed = ap (λ k. left + k) em ∙ sym (next-sum h);
         small = let l = d .small in omega arith;
       }
 
-  pub divided-skip : i < n → at t i ≡ pos 0 → Divided n t values left (i + 1)
-  divided-skip h z =
-      record {
-        stored = over-zeros-skip (length-map t _ ∙ long) (d .stored) h (at-quotients t i ∙ ap (productRounding .quotient) z ∙ zero-quotient (pos unit));
-        summed =
-            sym (next-sum h ∙ ap (λ k. left + k) (ap (λ a. natAbs (productRounding .remainder a)) z ∙ remainder-of-zero) ∙ add-zero left);
-        small = let l = d .small in omega arith;
-      }
-
   pub divided-values : n ≤ i → values ≡ quotients t
-  divided-values h = filled-all (length-map t _ ∙ long) (d .stored .filled) h
+  divided-values h = filled-all (length-map t _ ∙ long) (d .stored) h
 
   pub divided-left : n ≤ i → left ≡ sumAbs (remainders t)
   divided-left h = d .summed ∙ sumAbs-all (remainders t) i (rw (length-map t, long) h)

@@ -28,6 +28,13 @@ getD-tabulate (suc n) f d (suc i) h = getD-tabulate n (λ i. f (suc i)) d i (le-
 pub at-tabulate : (n : ℕ) (f : ℕ → ℤ) (i : ℕ) → i < n → at (tabulate n f) i ≡ f i
 at-tabulate n f i h = getD-tabulate n f (pos 0) i h
 
+-- what holds of each f i, and of 0, holds of the number at any index
+pub at-tabulate-all : (P : ℤ → Type 0) (n : ℕ) (f : ℕ → ℤ) → P (pos 0) → ((i : ℕ) → P (f i)) → (i : ℕ) → P (at (tabulate n f) i)
+unfolding tabulate
+at-tabulate-all P zero f z h i = z
+at-tabulate-all P (suc n) f z h zero = h 0
+at-tabulate-all P (suc n) f z h (suc i) = at-tabulate-all P n (λ i. f (suc i)) z (λ i. h (suc i)) i
+
 pub tabulate-cong : {A : Type 0} (n : ℕ) {f g : ℕ → A} → ((i : ℕ) → i < n → f i ≡ g i) → tabulate n f ≡ tabulate n g
 unfolding tabulate
 tabulate-cong zero h = refl

@@ -1,13 +1,13 @@
 -- How large the numbers of a product get: each product of two numbers of the operands is used once, so that all totals and the dropped
 -- part together are at most span times span.
-use mathlib.Core.Path.{_≡_, refl, sym, ap, _∙_}
+use mathlib.Core.Path.{refl}
 use mathlib.Core.Bool.{Bool, true, false}
-use mathlib.Core.List.{List, [], _∷_, _++_}
+use mathlib.Core.List.{List, [], _∷_}
 use Prim.Native.Nat.{ℕ, zero, suc, _+_, _-_, _*_, _^_, _≤_, _<_}
 use native.Mathlib.Nat.{le-refl, le-trans, mul-comm, mul-add, add-mul, mul-le-mul}
 use native.Mathlib.Omega.{arith}
 use borrow.Author.Tests.{ltb-true, eq-eqb, ne-eqb}
-use lib.Dec.{ltb}
+use lib.Dec.{eqb, ltb}
 use lib.IntN.{ℤ, pos, natAbs, _+ℤ_, _*ℤ_}
 use lib.ListN.{take}
 use lib.Seq.{getD-take}
@@ -22,6 +22,7 @@ use Rattle.affine.specs.Limits.{symbols, pairs, paired}
 use Rattle.affine.specs.PairOrder.{overPairs, firstOf, secondOf, inUse}
 use Rattle.affine.specs.Row.{span}
 use Rattle.affine.specs.Product.{meeting, crosswise, linearTotals, pairTotals, radius, squaredRadius, dropped}
+use Rattle.affine.proofs.Lists.{pick-elim}
 use Rattle.affine.proofs.PairSymbols.{tabulate-pairs}
 use Rattle.affine.proofs.RowSize.{span-is-sum, centre-within}
 
@@ -48,10 +49,15 @@ two-products m n a b c d h ha hb hc hd =
     }
 
 -- the first alone, or both
-pub one-or-both-within : {m n : ℕ} {a b c d : ℤ} (one : Bool) → TwoProducts m n a b c d
+one-or-both-within : {m n : ℕ} {a b c d : ℤ} (one : Bool) → TwoProducts m n a b c d
     → natAbs (pick one (a *ℤ b) (a *ℤ b +ℤ c *ℤ d)) ≤ 2 * (m * n)
 one-or-both-within true w = omega (arith, w .first)
 one-or-both-within false w = w .both
+
+pub meeting-within : {m n : ℕ} (a b : List ℤ) → 2 * (m * n) < 2 ^ 63 → ((i : ℕ) → natAbs (at a i) ≤ m) → ((i : ℕ) → natAbs (at b i) ≤ n)
+    → (i j : ℕ) → natAbs (meeting a b i j) ≤ 2 * (m * n)
+meeting-within {m} {n} a b h ha hb i j =
+    one-or-both-within (eqb i j) (two-products m n (at a i) (at b j) (at a j) (at b i) h (ha i) (hb j) (ha j) (hb i))
 
 -- ---- radii
 pub radius-within : {n : ℕ} (r : Row) → span r ≤ n → radius r ≤ n
@@ -107,27 +113,24 @@ module _ (squares : ℕ) (a b : List ℤ) where
   used i j = pick (ltb j squares) (meeting a b i j) (pos 0)
 
   used-same : (i : ℕ) → natAbs (used i i) ≤ natAbs (at (take squares a) i) * natAbs (at (take squares b) i)
-  used-same i = by-test (ltb i squares) refl
-    where
-      by-test : (t : Bool) → ltb i squares ≡ t → natAbs (pick t (meeting a b i i) (pos 0)) ≤ natAbs (at (take squares a) i) * natAbs (at (take squares b) i)
-      by-test true e =
-          let l = ltb-true i squares e in
-          rw (eq-eqb i i refl, getD-take squares a i (pos 0) l, getD-take squares b i (pos 0) l, ← natAbs-mul) (omega arith)
-      by-test false e = omega arith
+  used-same i =
+      pick-elim (λ z. natAbs z ≤ natAbs (at (take squares a) i) * natAbs (at (take squares b) i)) (ltb i squares) (meeting a b i i) (pos 0)
+      (λ e.
+      let l = ltb-true i squares e in
+      rw (eq-eqb i i refl, getD-take squares a i (pos 0) l, getD-take squares b i (pos 0) l, ← natAbs-mul) (omega arith))
+      (λ e. omega arith)
 
   used-other : (i j : ℕ) → i < j
       → natAbs (used i j) ≤ natAbs (at (take squares a) i) * natAbs (at (take squares b) j) + natAbs (at (take squares b) i) * natAbs (at (take squares a) j)
-  used-other i j h = by-test (ltb j squares) refl
-    where
-      by-test : (t : Bool) → ltb j squares ≡ t
-          → natAbs (pick t (meeting a b i j) (pos 0))
-          ≤ natAbs (at (take squares a) i) * natAbs (at (take squares b) j) + natAbs (at (take squares b) i) * natAbs (at (take squares a) j)
-      by-test true e =
-          let l = ltb-true j squares e in
-          let k : i < squares = omega arith in
-          rw (ne-eqb i j (λ q. omega arith), getD-take squares a i (pos 0) k, getD-take squares b i (pos 0) k, getD-take squares a j (pos 0) l, getD-take squares b j (pos 0) l)
-          (natAbs-add-within (at a i *ℤ at b j) (at a j *ℤ at b i) (natAbs-mul-within (at a i) (at b j) (omega arith) (omega arith)) (rw mul-comm (natAbs-mul-within (at a j) (at b i) (omega arith) (omega arith))))
-      by-test false e = omega arith
+  used-other i j h =
+      pick-elim (λ z. natAbs z ≤ natAbs (at (take squares a) i) * natAbs (at (take squares b) j) + natAbs (at (take squares b) i) * natAbs (at (take squares a) j))
+      (ltb j squares) (meeting a b i j) (pos 0)
+      (λ e.
+      let l = ltb-true j squares e in
+      let k : i < squares = omega arith in
+      rw (ne-eqb i j (λ q. omega arith), getD-take squares a i (pos 0) k, getD-take squares b i (pos 0) k, getD-take squares a j (pos 0) l, getD-take squares b j (pos 0) l)
+      (natAbs-add-within (at a i *ℤ at b j) (at a j *ℤ at b i) (rw natAbs-mul (omega arith)) (rw (natAbs-mul, mul-comm (natAbs (at b i))) (omega arith))))
+      (λ e. omega arith)
 
   used-within : sumAbs (overPairs paired used) ≤ sumAbs (take squares a) * sumAbs (take squares b)
   used-within =

@@ -1,5 +1,5 @@
 -- The numbers of a row against its span: the span is the centre's, the linear and the pair absolutes added up.
-use mathlib.Core.Path.{_≡_, ap, _∙_}
+use mathlib.Core.Path.{_≡_, ap}
 use Prim.Native.Nat.{ℕ, _+_, _≤_}
 use native.Mathlib.Omega.{arith}
 use lib.IntN.{natAbs}

@@ -1,13 +1,10 @@
 -- Sums over a list: one element more, no part above the whole, two lists joined. By induction on the list.
-use mathlib.Core.Path.{_≡_, refl, sym, ap, _∙_}
-use mathlib.Core.List.{List, [], _∷_, _++_}
+use mathlib.Core.Path.{_≡_, refl, ap, _∙_}
+use mathlib.Core.List.{List, [], _∷_}
 use Prim.Native.Nat.{ℕ, zero, suc, _+_, _≤_, _<_}
-use native.Mathlib.Nat.{add-zero, zero-add, add-assoc}
-use native.Mathlib.Numerals.{add-one}
 use native.Mathlib.Omega.{arith}
 use lib.IntN.{ℤ, pos, natAbs}
 use lib.ListN.{length, take}
-use lib.Seq.{take-suc}
 use Rattle.integer.specs.Sum.{sumAbs}
 use Rattle.integer.proofs.Sum.{sumAbs-more, sumAbs-take}
 use Rattle.affine.specs.Lists.{at, tabulate, sum}
@@ -34,11 +31,6 @@ module _ {n : ℕ} {xs : List ℤ} {i total m : ℕ} (s : Summed n xs i total) (
   -- so the sum does not wrap where the whole fits
   pub summed-within : total + m ≤ sumAbs xs
   summed-within = let t = sumAbs-take (i + 1) xs in omega (arith, summed-more .so-far)
-
--- a 0 may be passed over
-pub summed-skip : {n : ℕ} {xs : List ℤ} {i total : ℕ} → Summed n xs i total → i < n → n ≤ length xs → at xs i ≡ pos 0 → Summed n xs (i + 1) total
-summed-skip {n} {xs} {i} {total} s h long z =
-    rw (add-zero total) at (summed-more {m = 0} s h long (sym (ap natAbs z)))
 
 pub summed-all : {n : ℕ} {xs : List ℤ} {i total : ℕ} → Summed n xs i total → n ≤ i → total ≡ sumAbs (take n xs)
 summed-all {n} {xs} {i} s h = let e : i ≡ n = omega arith in rw e at (s .so-far)

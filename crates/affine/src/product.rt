@@ -8,13 +8,15 @@ use crate::pair_order::first_of;
 use crate::pair_order::second_of;
 ghost use mathlib.Core.Path.{_≡_};
 ghost use mathlib.Core.List.{map};
-ghost use Prim.Native.Nat.{_+_, _*_, _≤_, _<_};
-ghost use lib.IntN.{natAbs, _+ℤ_, _*ℤ_};
+ghost use Prim.Native.Nat.{ℕ, _+_, _*_, _≤_, _<_};
+ghost use lib.IntN.{pos, natAbs, _+ℤ_, _*ℤ_};
 ghost use Rattle.integer.specs.Sum.{sumAbs};
-ghost use Rattle.affine.specs.Limits.{symbols, paired, spanLimit};
-ghost use Rattle.affine.specs.Lists.{pick};
+ghost use Rattle.affine.specs.Limits.{symbols, pairs, paired, spanLimit};
+ghost use Rattle.affine.specs.Lists.{at, pick};
+ghost use Rattle.affine.specs.PairOrder.{firstOf, secondOf, inUse};
 ghost use Rattle.affine.specs.Row.{span};
 ghost use Rattle.affine.specs.Product.{
+  meeting,
   crosswise,
   linearTotals,
   pairTotals,
@@ -52,23 +54,42 @@ pub fn meeting_products(ai: i64, bj: i64, aj: i64, bi: i64, square: bool) -> i64
     if square { ai * bj } else { ai * bj + aj * bi }
 }
 
-// The total of a pair: crosswise as of a symbol, plus the products that meet in the pair.
+// The products that meet in the pair at index k, of two rows' coefficients.
+pub fn meeting_at(a: &[i64; SYMBOLS], b: &[i64; SYMBOLS], k: usize) -> i64
+    requires { ⌜ k < pairs ⌝ }
+    requires { ⌜ ((i : ℕ) → natAbs (at (now a) i) ≤ spanLimit) × ((i : ℕ) → natAbs (at (now b) i) ≤ spanLimit) ⌝ }
+    ensures { λ r. ⌜ r ≡ meeting (now (a .entry)) (now (b .entry)) (firstOf k) (secondOf k) ⌝ }
+{
+    let i = first_of(k);
+    let j = second_of(k);
+    let ai = a[i];
+    let bj = b[j];
+    let aj = a[j];
+    let bi = b[i];
+    meeting_products(ai, bj, aj, bi, i == j)
+}
+
+// The total of the pair at index k, 0 where it is not in use: crosswise as of a symbol, plus the products that meet in the pair.
 pub fn pair_total(
+    a: &[i64; SYMBOLS],
+    b: &[i64; SYMBOLS],
     c: i64,
     q: i64,
     d: i64,
     p: i64,
-    ai: i64,
-    bj: i64,
-    aj: i64,
-    bi: i64,
-    square: bool,
+    k: usize,
+    squares: usize,
 ) -> i64
+    requires { ⌜ k < pairs ⌝ }
     requires { ⌜ (natAbs c ≤ spanLimit) × (natAbs q ≤ spanLimit) × (natAbs d ≤ spanLimit) × (natAbs p ≤ spanLimit) ⌝ }
-    requires { ⌜ (natAbs ai ≤ spanLimit) × (natAbs bj ≤ spanLimit) × (natAbs aj ≤ spanLimit) × (natAbs bi ≤ spanLimit) ⌝ }
-    ensures { λ r. ⌜ r ≡ crosswise c q d p +ℤ pick square (ai *ℤ bj) (ai *ℤ bj +ℤ aj *ℤ bi) ⌝ }
+    requires { ⌜ ((i : ℕ) → natAbs (at (now a) i) ≤ spanLimit) × ((i : ℕ) → natAbs (at (now b) i) ≤ spanLimit) ⌝ }
+    ensures { λ r. ⌜ r ≡ pick (inUse squares k) (crosswise c q d p +ℤ meeting (now (a .entry)) (now (b .entry)) (firstOf k) (secondOf k)) (pos 0) ⌝ }
 {
-    linear_total(c, q, d, p) + meeting_products(ai, bj, aj, bi, square)
+    if second_of(k) < squares {
+        linear_total(c, q, d, p) + meeting_at(a, b, k)
+    } else {
+        0
+    }
 }
 
 fn linear_quotients(x: Row, y: Row) -> LinearQuotients
@@ -99,25 +120,19 @@ fn pair_quotients(x: Row, y: Row, squares: usize) -> PairQuotients
     ensures values { λ r. ⌜ r .values ≡ map (productRounding .quotient) (pairTotals squares x y) ⌝ }
     ensures remainders { λ r. ⌜ r .remainders ≡ sumAbs (map (productRounding .remainder) (pairTotals squares x y)) ⌝ }
 {
+    let a = x.linear;
+    let b = y.linear;
     let c = x.centre;
     let d = y.centre;
     let mut values = [0i64; PAIRS];
     let mut remainders: u64 = 0;
     let mut k: usize = 0;
     while k < PAIRS {
-        let i = first_of(k);
-        let j = second_of(k);
-        if j < squares {
-            let p = x.pair[k];
-            let q = y.pair[k];
-            let ai = x.linear[i];
-            let aj = x.linear[j];
-            let bi = y.linear[i];
-            let bj = y.linear[j];
-            let t = pair_total(c, q, d, p, ai, bj, aj, bi, i == j);
-            values[k] = integer::division::floor_quotient_4096(t);
-            remainders += integer::division::floor_remainder_4096(t);
-        }
+        let p = x.pair[k];
+        let q = y.pair[k];
+        let t = pair_total(&a, &b, c, q, d, p, k, squares);
+        values[k] = integer::division::floor_quotient_4096(t);
+        remainders += integer::division::floor_remainder_4096(t);
         k += 1;
     }
     PairQuotients { values, remainders }

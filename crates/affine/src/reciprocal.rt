@@ -5,16 +5,17 @@ use crate::Status;
 use crate::limits::PAIRS;
 use crate::limits::SYMBOLS;
 use crate::limits::UNIT_SQUARED;
-use crate::pair_order::first_of;
 use crate::pair_order::second_of;
 ghost use mathlib.Core.Path.{_≡_};
-ghost use Prim.Native.Nat.{_+_, _*_, _≤_, _<_};
-ghost use lib.IntN.{negℤ, natAbs, _+ℤ_};
+ghost use Prim.Native.Nat.{ℕ, _+_, _*_, _≤_, _<_};
+ghost use lib.IntN.{pos, negℤ, natAbs, _+ℤ_};
 ghost use Rattle.integer.specs.Floor.{floorQuotient};
 ghost use Rattle.integer.specs.Sum.{sumAbs};
-ghost use Rattle.affine.specs.Limits.{symbols, paired, unitSquared, spanLimit};
+ghost use Rattle.affine.specs.Limits.{symbols, pairs, paired, unitSquared, spanLimit};
+ghost use Rattle.affine.specs.Lists.{at, pick};
+ghost use Rattle.affine.specs.PairOrder.{firstOf, secondOf, inUse};
 ghost use Rattle.affine.specs.Row.{span};
-ghost use Rattle.affine.specs.Product.{linearTotals, pairTotals};
+ghost use Rattle.affine.specs.Product.{meeting, linearTotals, pairTotals};
 ghost use Rattle.affine.specs.Reciprocal.{
   slope,
   candidateLinear,
@@ -57,25 +58,38 @@ fn candidate_curve(c: i64, p: i64, met: i64) -> i64
     candidate_slope(c, p) + integer::division::floor_quotient(-met, c)
 }
 
+// The candidate's coefficient of the pair at index k, 0 where the pair is not in use.
+fn candidate_pair_at(
+    z: &[i64; SYMBOLS],
+    a: &[i64; SYMBOLS],
+    c: i64,
+    p: i64,
+    k: usize,
+    squares: usize,
+) -> i64
+    requires { ⌜ k < pairs ⌝ }
+    requires { ⌜ (natAbs c ≤ spanLimit) × (natAbs p ≤ spanLimit) × (0 < natAbs c) ⌝ }
+    requires { ⌜ ((i : ℕ) → natAbs (at (now z) i) ≤ unitSquared) × ((i : ℕ) → natAbs (at (now a) i) ≤ spanLimit) ⌝ }
+    ensures { λ r. ⌜ r ≡ pick (inUse squares k) (slope c p +ℤ floorQuotient (negℤ (meeting (now (z .entry)) (now (a .entry)) (firstOf k) (secondOf k))) c) (pos 0) ⌝ }
+{
+    if second_of(k) < squares {
+        candidate_curve(c, p, crate::product::meeting_at(z, a, k))
+    } else {
+        0
+    }
+}
+
 fn candidate_pair(x: Row, z: [i64; SYMBOLS], squares: usize) -> [i64; PAIRS]
     requires { ⌜ (span x ≤ spanLimit) × (0 < natAbs (x .centre)) × (sumAbs (x .linear) ≤ natAbs (x .centre)) × (z ≡ candidateLinear x) ⌝ }
     ensures { λ r. ⌜ r ≡ candidatePair squares x ⌝ }
 {
+    let a = x.linear;
     let c = x.centre;
     let mut out = [0i64; PAIRS];
     let mut k: usize = 0;
     while k < PAIRS {
-        let i = first_of(k);
-        let j = second_of(k);
-        if j < squares {
-            let p = x.pair[k];
-            let ai = x.linear[i];
-            let aj = x.linear[j];
-            let zi = z[i];
-            let zj = z[j];
-            let met = crate::product::meeting_products(zi, aj, zj, ai, i == j);
-            out[k] = candidate_curve(c, p, met);
-        }
+        let p = x.pair[k];
+        out[k] = candidate_pair_at(&z, &a, c, p, k, squares);
         k += 1;
     }
     out
@@ -116,26 +130,20 @@ fn linear_total_absolutes(x: Row, z: Row) -> u64
 }
 
 fn pair_total_absolutes(x: Row, z: Row, squares: usize) -> u64
-    requires { ⌜ (squares ≤ paired) × (span x ≤ spanLimit) × (span z ≤ spanLimit) ⌝ }
+    requires { ⌜ (span x ≤ spanLimit) × (span z ≤ spanLimit) ⌝ }
     ensures { λ r. ⌜ r ≡ sumAbs (pairTotals squares x z) ⌝ }
 {
+    let a = x.linear;
+    let b = z.linear;
     let c = x.centre;
     let d = z.centre;
     let mut sum: u64 = 0;
     let mut k: usize = 0;
     while k < PAIRS {
-        let i = first_of(k);
-        let j = second_of(k);
-        if j < squares {
-            let p = x.pair[k];
-            let q = z.pair[k];
-            let ai = x.linear[i];
-            let aj = x.linear[j];
-            let bi = z.linear[i];
-            let bj = z.linear[j];
-            let t = crate::product::pair_total(c, q, d, p, ai, bj, aj, bi, i == j);
-            sum += integer::magnitude::absolute(t);
-        }
+        let p = x.pair[k];
+        let q = z.pair[k];
+        let t = crate::product::pair_total(&a, &b, c, q, d, p, k, squares);
+        sum += integer::magnitude::absolute(t);
         k += 1;
     }
     sum

@@ -1,6 +1,5 @@
--- `pair_quotients` meets its contract: each turn forms the total of one pair in use and divides it.
+-- `pair_quotients` meets its contract: each turn forms the total of one pair and divides it.
 use mathlib.Core.Path.{_≡_, sym, _∙_}
-use mathlib.Core.Logic.{⊎-elim}
 use Prim.Native.Nat.{ℕ, _-_, _≤_, _<_}
 use native.Mathlib.Omega.{arith}
 use lib.IntN.{ℤ, natAbs}
@@ -9,30 +8,23 @@ use mir.Val.{toZ, ofZ}
 use borrow.Author.Needs.{needs}
 use Rattle.integer.proofs.Machine.{back}
 use Rattle.affine.specs.declared.Row.{Row}
-use Rattle.affine.specs.Limits.{symbols, pairs, unit}
+use Rattle.affine.specs.Limits.{pairs, unit}
 use Rattle.affine.specs.Lists.{at}
 use Rattle.affine.specs.Product.{pairTotals, productRounding}
 use Rattle.affine.proofs.RowSize.{centre-within, linear-at-within, pair-at-within}
-use Rattle.affine.proofs.PairSymbols.{first-below, second-below}
-use Rattle.affine.proofs.Totals.{length-pair-totals, pair-total-used, pair-total-unused}
-use Rattle.affine.proofs.Divided.{Divided, divided-none, divided-more, divided-skip, divided-values, divided-left, remainder-small}
+use Rattle.affine.proofs.Totals.{length-pair-totals, pair-total-at}
+use Rattle.affine.proofs.Divided.{Divided, divided-none, divided-more, divided-values, divided-left, remainder-small}
 use Rattle.affine.proofs.product.pair_quotients.Statement.{statement}
 use Rattle.affine.proofs.product.pair_quotients.Tie as tie
 
 abbrev Inv-loop : tie.InvT-loop
-Inv-loop squares x y c d values₀ remainders₀ k₀ values remainders k = Divided pairs (pairTotals squares x y) values remainders k
+Inv-loop squares x y a b c d values₀ remainders₀ k₀ values remainders k = Divided pairs (pairTotals squares x y) values remainders k
 
 abbrev μ-loop : tie.MeasureT-loop
-μ-loop squares x y c d values₀ remainders₀ k₀ values remainders k = pairs - k
+μ-loop squares x y a b c d values₀ remainders₀ k₀ values remainders k = pairs - k
 
 loop-holds : tie.Need-loop-holds Inv-loop μ-loop
 loop-holds c = divided-none pairs _
-
-first-of-requires : tie.Need-first-of-requires Inv-loop μ-loop
-first-of-requires c κs = search needs
-
-second-of-requires : tie.Need-second-of-requires Inv-loop μ-loop
-second-of-requires c κs = search needs
 
 mul-p : tie.Need-mul-p Inv-loop μ-loop
 mul-p c = search needs
@@ -46,64 +38,21 @@ mul-q c = search needs
 element-copy-out-q : tie.Need-element-copy-out-q Inv-loop μ-loop
 element-copy-out-q c = search needs
 
--- ---- the symbols of a turn
-abbrev Paired : Type 0
-Paired = tie.After-second-of Inv-loop μ-loop
-
-first-small : (c : Paired) → c .before .first-of .result < symbols
-first-small c = omega (arith, c .before .first-of .ensures, first-below (c .before .before .before .loop .k))
-
-second-small : (c : Paired) → c .second-of .result < symbols
-second-small c = omega (arith, c .second-of .ensures, second-below (c .before .before .before .loop .k))
-
-mul-ai : tie.Need-mul-ai Inv-loop μ-loop
-mul-ai c = omega (arith, first-small (c .before .before .before))
-
-element-copy-out-ai : tie.Need-element-copy-out-ai Inv-loop μ-loop
-element-copy-out-ai c = first-small (c .before .before .before)
-
-mul-aj : tie.Need-mul-aj Inv-loop μ-loop
-mul-aj c = omega (arith, second-small (c .before .before .before .before))
-
-element-copy-out-aj : tie.Need-element-copy-out-aj Inv-loop μ-loop
-element-copy-out-aj c = second-small (c .before .before .before .before)
-
-mul-bi : tie.Need-mul-bi Inv-loop μ-loop
-mul-bi c = omega (arith, first-small (c .before .before .before .before .before))
-
-element-copy-out-bi : tie.Need-element-copy-out-bi Inv-loop μ-loop
-element-copy-out-bi c = first-small (c .before .before .before .before .before)
-
-mul-bj : tie.Need-mul-bj Inv-loop μ-loop
-mul-bj c = omega (arith, second-small (c .before .before .before .before .before .before))
-
-element-copy-out-bj : tie.Need-element-copy-out-bj Inv-loop μ-loop
-element-copy-out-bj c = second-small (c .before .before .before .before .before .before)
-
--- ---- the eight numbers of a turn, as they are read
+-- ---- the numbers of a turn, as they are read
 abbrev Read : Type 0
-Read = tie.After-bj Inv-loop μ-loop
-
-abbrev pair : Read → Paired
-pair c = c .before .before .before .before .before .before .before
+Read = tie.After-b2 Inv-loop μ-loop
 
 abbrev turn : Read → tie.At-loop Inv-loop μ-loop
-turn c = pair c .before .before .before
+turn c = c .before .before .before .before .before
 
 abbrev start : Read → tie.Start Inv-loop μ-loop
-start c = turn c .before .before .before
+start c = turn c .before .before .before .before .before
 
 abbrev x : Read → Row
 x c = start c .args .t1
 
 abbrev y : Read → Row
 y c = start c .args .t2
-
-abbrev i : Read → ℕ
-i c = pair c .before .first-of .result
-
-abbrev j : Read → ℕ
-j c = pair c .second-of .result
 
 abbrev k : Read → ℕ
 k c = turn c .loop .k
@@ -115,30 +64,21 @@ d-is : (c : Read) → toZ w64 (ofZ w64 (y c .centre)) ≡ y c .centre
 d-is c = search needs
 
 p-is : (c : Read) → toZ w64 (ofZ w64 (at (x c .pair) (k c))) ≡ at (x c .pair) (k c)
-p-is c = back (c .before .before .before .before .before .p .given)
+p-is c = back (c .before .before .before .p .given)
 
 q-is : (c : Read) → toZ w64 (ofZ w64 (at (y c .pair) (k c))) ≡ at (y c .pair) (k c)
-q-is c = back (c .before .before .before .before .q .given)
-
-ai-is : (c : Read) → toZ w64 (ofZ w64 (at (x c .linear) (i c))) ≡ at (x c .linear) (i c)
-ai-is c = back (c .before .before .before .ai .given)
-
-aj-is : (c : Read) → toZ w64 (ofZ w64 (at (x c .linear) (j c))) ≡ at (x c .linear) (j c)
-aj-is c = back (c .before .before .aj .given)
-
-bi-is : (c : Read) → toZ w64 (ofZ w64 (at (y c .linear) (i c))) ≡ at (y c .linear) (i c)
-bi-is c = back (c .before .bi .given)
-
-bj-is : (c : Read) → toZ w64 (ofZ w64 (at (y c .linear) (j c))) ≡ at (y c .linear) (j c)
-bj-is c = back (c .bj .given)
+q-is c = back (c .before .before .q .given)
 
 pair-total-requires : tie.Need-pair-total-requires Inv-loop μ-loop
 pair-total-requires c κs =
     let hx = start c .pre .0 in
-    let hy = start c .pre .1 in
-    rw (c-is c, d-is c, p-is c, q-is c, ai-is c, aj-is c, bi-is c, bj-is c) (
-      (centre-within (x c) hx, pair-at-within (y c) hy (k c), centre-within (y c) hy, pair-at-within (x c) hx (k c)),
-      (linear-at-within (x c) hx (i c), linear-at-within (y c) hy (j c), linear-at-within (x c) hx (j c), linear-at-within (y c) hy (i c)),
+    let hy = start c .pre .1 in (
+      c .before .before .before .before .loop-test .taken,
+      (
+        rw (c-is c, d-is c, p-is c, q-is c)
+            (centre-within (x c) hx, pair-at-within (y c) hy (k c), centre-within (y c) hy, pair-at-within (x c) hx (k c)),
+        (linear-at-within (x c) hx, linear-at-within (y c) hy),
+      ),
     )
 
 -- ---- the total of a turn, what the turn stores and what it adds
@@ -148,10 +88,8 @@ wanted c = at (pairTotals (start c .args .squares) (x c) (y c)) (k c)
 total : (c : tie.After-pair-total Inv-loop μ-loop) → toZ w64 (ofZ w64 (c .pair-total .result)) ≡ wanted (c .before)
 total c =
     let b = c .before in
-    back (c .pair-total .ok)
-    ∙ (rw (c-is b, d-is b, p-is b, q-is b, ai-is b, aj-is b, bi-is b, bj-is b) at (c .pair-total .ensures))
-    ∙ sym
-    (pair-total-used (start b .args .squares) (x b) (y b) (k b) (omega arith) (pair b .before .first-of .ensures) (pair b .second-of .ensures) (omega arith))
+    back (c .pair-total .ok) ∙ (rw (c-is b, d-is b, p-is b, q-is b) at (c .pair-total .ensures))
+    ∙ sym (pair-total-at (start b .args .squares) (x b) (y b) (k b) (omega arith))
 
 abbrev Divided-once : Type 0
 Divided-once = tie.After-floor-remainder-4096 Inv-loop μ-loop
@@ -189,40 +127,8 @@ loop-less c = search needs
 
 loop-again : tie.Need-loop-again Inv-loop μ-loop
 loop-again c =
-    let o = c .before .before .before .before in
-    let h : o .loop .k < pairs = omega arith in
-    ⊎-elim
-    (λ w.
-    let r : Divided-once =
-    record {
-      before = record {
-        before = record {
-          before = record {
-            before = record {
-              before = record {
-                before = record {
-                  before = record { before = record { before = record { before = c .before; if1 = w .0 }; p = w .1 }; q = w .2 };
-                  ai = w .3;
-                };
-                aj = w .4;
-              };
-              bi = w .5;
-            };
-            bj = w .6;
-          };
-          pair-total = w .7;
-        };
-        floor-quotient-4096 = w .8;
-      };
-      floor-remainder-4096 = w .9;
-    }
-    in
-    rw (w .10, w .11) (divided-more (length-pair-totals _ _ _) (o .loop .inv) h (quotient r) (remainder r)))
-    (λ w.
-    rw (w .1, w .2)
-    (divided-skip (length-pair-totals _ _ _) (o .loop .inv) h
-    (pair-total-unused _ _ _ (o .loop .k) h (c .before .second-of .ensures) (w .0 .left))))
-    (c .if1 .came)
+    let o = turn (c .before .before .before) in
+    divided-more (length-pair-totals _ _ _) (o .loop .inv) (omega arith) (quotient c) (remainder c)
 
 returns : tie.Need-returns Inv-loop μ-loop
 returns c =
@@ -237,20 +143,10 @@ pair-quotients-spec =
     Inv-loop
     μ-loop
     loop-holds
-    first-of-requires
-    second-of-requires
     mul-p
     element-copy-out-p
     mul-q
     element-copy-out-q
-    mul-ai
-    element-copy-out-ai
-    mul-aj
-    element-copy-out-aj
-    mul-bi
-    element-copy-out-bi
-    mul-bj
-    element-copy-out-bj
     pair-total-requires
     floor-quotient-4096-requires
     mul-values

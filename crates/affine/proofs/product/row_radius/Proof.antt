@@ -4,7 +4,7 @@ use Prim.Native.Nat.{_+_}
 use native.Mathlib.Omega.{arith}
 use lib.ListN.{length}
 use borrow.Author.Needs.{needs}
-use Rattle.affine.specs.Limits.{symbols, spanLimit}
+use Rattle.affine.specs.Limits.{symbols}
 use Rattle.affine.specs.Product.{radius}
 use Rattle.integer.specs.Sum.{sumAbs}
 use Rattle.affine.proofs.SumLaws.{sumAbs-all}

@@ -1,14 +1,14 @@
 -- `error_bound` meets its contract: its four parts are those of the bound, which does not wrap.
-use mathlib.Core.Path.{_≡_, ap, ap₂, _∙_}
+use mathlib.Core.Path.{_≡_, ap₂, _∙_}
 use Prim.Native.Nat.{_+_, _*_, _≤_}
 use native.Mathlib.Omega.{arith}
-use lib.IntN.{ℤ, pos, natAbs, _-ℤ_, _*ℤ_}
+use lib.IntN.{pos, natAbs, _*ℤ_}
 use mir.Syntax.{w64}
 use mir.Val.{SFits, toZ, ofZ}
 use mir.ValLaws.{toZ-ofZ}
 use borrow.Author.Needs.{needs}
 use Rattle.integer.proofs.Absolute.{natAbs-sub-within, fits-within}
-use Rattle.integer.proofs.Machine.{back-as, operation-fits, operation-gives}
+use Rattle.integer.proofs.Machine.{operation-fits, operation-gives}
 use Rattle.affine.specs.Limits.{unitSquared, spanLimit}
 use Rattle.affine.specs.Reciprocal.{errorBound}
 use Rattle.affine.proofs.Magnitude.{centre-product-within}

@@ -1,6 +1,6 @@
 -- `linear_total_absolutes` meets its contract: each turn adds the absolute total of one symbol; all of them together are at most span times span.
 use mathlib.Core.Path.{_≡_, sym, _∙_}
-use Prim.Native.Nat.{ℕ, _-_, _≤_, _<_}
+use Prim.Native.Nat.{ℕ, _-_, _≤_}
 use native.Mathlib.Omega.{arith}
 use lib.IntN.{ℤ, natAbs}
 use lib.ListN.{length}
