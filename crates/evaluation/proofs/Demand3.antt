@@ -1,0 +1,265 @@
+-- Demand 3: the induction over rows, put to work on the rows, tables and answers of the contracts. `specs/Demand3.antt` has the statement.
+use mathlib.Core.Path.{_≡_, refl, sym, ap, ap₂, _∙_, subst}
+use mathlib.Core.Logic.{_≢_, _⊎_, inl, inr, _↔_}
+use mathlib.Core.Bool.{Bool, true, false}
+use mathlib.Core.List.{List, [], _∷_, _++_}
+use Prim.Native.Nat.{ℕ, zero, suc, _+_, _*_, _-_, _≤_, _<_}
+use native.Mathlib.Omega.{arith}
+use borrow.Author.Tests.{eqb-true, eqb-false, ne-eqb}
+use lib.Dec.{eqb, leb}
+use lib.IntN.{ℤ, pos, negsuc, natAbs}
+use lib.ListN.{length, getD, drop}
+use Rattle.integer.specs.Fraction.{Fraction, _≈_, _≤ℚ_, _+ℚ_, _-ℚ_, _*ℚ_, _/ℚ_, negℚ, whole}
+use Rattle.integer.proofs.Certificate.{certify, hyp, eqn, nat, _⊞_, _⊠_, _≼_, _≋_, _⊢_}
+use Rattle.integer.proofs.Ring.{var, con, _⊕_, _⊖_, _⊗_, neg, _≐_, ring}
+use Rattle.integer.proofs.Fraction.{ringOfFractions, orderedFractions, ≈-refl, ≈-sym, ≈-trans, +ℚ-cong, *ℚ-cong, times-quotient, not-below-of-≤ℚ}
+use Rattle.integer.proofs.Bound.{Bound, le-cong}
+use Rattle.affine.specs.declared.Row.{Row}
+use Rattle.affine.specs.Limits.{unit}
+use Rattle.affine.specs.Lists.{pick, at, equal}
+use Rattle.affine.specs.Form.{formValue}
+use Rattle.affine.specs.Row.{low, high, same}
+use Rattle.affine.specs.Steps.{constantRow}
+use Rattle.affine.proofs.Form.{Shaped, units}
+use Rattle.affine.proofs.FormBounds.{Unit-symbols}
+use Rattle.affine.proofs.Support.{FreeOf}
+use Rattle.affine.proofs.RangeLaws.{low-holds-value, high-holds-value}
+use Rattle.affine.proofs.Sameness.{same-is-equal}
+use Rattle.affine.proofs.Enclosure.{value-apart, distance-is-end}
+use Rattle.affine.specs.Reciprocal.{distance}
+use Rattle.sheet.specs.declared.Schedule.{Schedule}
+use Rattle.sheet.specs.Causes.{accepted}
+use Rattle.sheet.specs.Limits.{lastCode}
+use Rattle.sheet.specs.Lines.{natural, stepAt}
+use Rattle.sheet.specs.Writing.{testOf}
+use Rattle.evaluation.specs.Table.{rowOfNumbers, rowAt, rowWidth, tableAfter}
+use Rattle.evaluation.specs.Work.{Worked, stopped, tableTooShort, rowCount, worked, evaluated}
+use Rattle.evaluation.specs.Asking.{rowRefusal, rowsRefusal, rangeTold, rangeRefused, rangeOf, compared, notCompared, sameOf}
+use Rattle.evaluation.specs.declared.RangeAnswer.{RangeAnswer}
+use Rattle.evaluation.specs.declared.SameAnswer.{SameAnswer}
+use Rattle.evaluation.specs.Values.{Within, FromMinusOneToOne, exactValue, rowOf, ownOf, symbolsOf, nextFound, foundValues, foundValue}
+use Rattle.evaluation.specs.Demand3.{InputsWithin, StillHolds, Demand3, Demand-3}
+use Rattle.evaluation.proofs.Sequence.{grown, length-grown, getD-grown, getD-beyond}
+use Rattle.evaluation.proofs.Induction.{AtFound, at-found}
+use Rattle.evaluation.proofs.WorkLaws.{nextRow, rowsUpTo, Went, went}
+use Rattle.sheet.proofs.Passed.{Passed, passed}
+use Rattle.evaluation.proofs.Made.{row, divisor-of}
+use Rattle.evaluation.proofs.RowFacts.{fact, own, own-is, alone, owned}
+use Rattle.evaluation.proofs.RowEnclosure.{X, negℚ-cong, row-encloses, apart-nonzero}
+use Rattle.evaluation.proofs.TableLaws.{length-numbers, rowOfNumbers-numbers, rowPart-numbers}
+use Rattle.evaluation.proofs.FractionUnits.{scaled, scaled-form, scaled-cong, ≈-of-scaled, within-of-scaled}
+
+-- ---- found values grow as rows do
+found-grown : (c : Schedule) (x : ℕ → Fraction) (rows : List Row) (n : ℕ) → foundValues c x rows n ≡ grown (nextFound c x rows) n
+unfolding foundValues grown
+found-grown c x rows zero = refl
+found-grown c x rows (suc n) = ap (λ l. l ++ (nextFound c x rows l ∷ [])) (found-grown c x rows n)
+
+symbol-before : (c : Schedule) (x : ℕ → Fraction) (rows : List Row) (n i : ℕ) → i < n → symbolsOf (foundValues c x rows n) i ≡ foundValue c x rows i
+symbol-before c x rows n i h =
+    ap (λ l. getD l i (whole (pos 0))) (found-grown c x rows n) ∙ getD-grown (nextFound c x rows) n (whole (pos 0)) i h ∙ ap (nextFound c x rows) (sym (found-grown c x rows i))
+
+symbol-after : (c : Schedule) (x : ℕ → Fraction) (rows : List Row) (n i : ℕ) → n ≤ i → symbolsOf (foundValues c x rows n) i ≡ whole (pos 0)
+symbol-after c x rows n i h = ap (λ l. getD l i (whole (pos 0))) (found-grown c x rows n) ∙ getD-beyond (nextFound c x rows) n (whole (pos 0)) i h
+
+length-found : (c : Schedule) (x : ℕ → Fraction) (rows : List Row) (n : ℕ) → length (foundValues c x rows n) ≡ n
+length-found c x rows n = ap length (found-grown c x rows n) ∙ length-grown (nextFound c x rows) n
+
+path : {u v : Fraction} → u ≡ v → u ≈ v
+path {u} e = subst (λ v. u ≈ v) e (≈-refl u)
+
+-- a found value, by whether the own coefficient is 0
+found-none : (c : Schedule) (x : ℕ → Fraction) (rows : List Row) (n : ℕ) → ownOf rows n ≡ pos 0 → foundValue c x rows n ≡ whole (pos 0)
+unfolding nextFound
+found-none c x rows n e = rw (length-found c x rows n, e)
+
+found-some : (c : Schedule) (x : ℕ → Fraction) (rows : List Row) (n : ℕ) → equal (ownOf rows n) (pos 0) ≡ false
+    → foundValue c x rows n ≡ (exactValue c x n -ℚ formValue (rowOf rows n) (symbolsOf (foundValues c x rows n))) *ℚ whole (pos unit) /ℚ whole (ownOf rows n)
+unfolding nextFound
+found-some c x rows n e = rw (length-found c x rows n, e)
+
+-- ---- an accepted call's answer
+range-told : (lent : List ℤ) (n r : ℕ) → rangeOf lent n r .refusal ≡ accepted → rangeOf lent n r ≡ rangeTold (rowAt lent (r - 1))
+unfolding rangeOf
+range-told lent n r e = by-test (eqb (rowRefusal lent n r .number) 0) refl e
+  where
+    by-test : (t : Bool) → eqb (rowRefusal lent n r .number) 0 ≡ t → pick t (rangeTold (rowAt lent (r - 1))) (rangeRefused (rowRefusal lent n r)) .refusal ≡ accepted
+        → pick t (rangeTold (rowAt lent (r - 1))) (rangeRefused (rowRefusal lent n r)) ≡ rangeTold (rowAt lent (r - 1))
+    by-test true q e = refl
+    by-test false q e = absurd (eqb-false _ _ q (ap (λ s. s .number) e))
+
+same-told : (lent : List ℤ) (n r s : ℕ) → sameOf lent n r s .refusal ≡ accepted → sameOf lent n r s ≡ compared (rowAt lent (r - 1)) (rowAt lent (s - 1))
+unfolding sameOf
+same-told lent n r s e = by-test (eqb (rowsRefusal lent n r s .number) 0) refl e
+  where
+    by-test : (t : Bool) → eqb (rowsRefusal lent n r s .number) 0 ≡ t
+        → pick t (compared (rowAt lent (r - 1)) (rowAt lent (s - 1))) (notCompared (rowsRefusal lent n r s)) .refusal ≡ accepted
+        → pick t (compared (rowAt lent (r - 1)) (rowAt lent (s - 1))) (notCompared (rowsRefusal lent n r s)) ≡ compared (rowAt lent (r - 1)) (rowAt lent (s - 1))
+    by-test true q e = refl
+    by-test false q e = absurd (eqb-false _ _ q (ap (λ u. u .number) e))
+
+module _ (c : Schedule) (pass : Passed c) (x : ℕ → Fraction) (within : InputsWithin c x) (went : Went c (rowCount c)) where
+  abbrev count : ℕ
+  count = rowCount c
+
+  abbrev rows : List Row
+  rows = rowsUpTo c count
+
+  abbrev f : ℕ → Row
+  f n = row c pass x n
+
+  abbrev o : ℕ → ℕ
+  o n = own c pass x went n
+
+  abbrev exact : ℕ → Fraction
+  exact n = X c pass x within went n
+
+  abbrev φ : ℕ → Fraction
+  φ n = foundValue c x rows n
+
+  abbrev S : ℕ → ℕ → Fraction
+  S n = symbolsOf (foundValues c x rows n)
+
+  row-of : (n : ℕ) → n < count → rowOf rows n ≡ f n
+  row-of n h = getD-grown (nextRow c) count (constantRow (pos 0)) n h
+
+  own-of : (n : ℕ) → n < count → ownOf rows n ≡ pos (o n)
+  own-of n h = ap (λ r. at (r .linear) n) (row-of n h) ∙ own-is c pass x went n h
+
+  none : (n : ℕ) → n < count → o n ≡ 0 → φ n ≈ whole (pos 0)
+  none n h e = path (found-none c x rows n (own-of n h ∙ ap pos e))
+
+  found : (n : ℕ) → n < count → o n ≢ 0 → whole (pos (o n)) *ℚ φ n ≈ exact n -ℚ units ringOfFractions (f n) (S n)
+  found n h d =
+      ≈-trans (*ℚ-cong (path (ap whole (sym (own-of n h)))) (path (found-some c x rows n (ap (λ z. equal z (pos 0)) (own-of n h) ∙ ne-eqb (o n) 0 d))))
+      (≈-trans (times-quotient _ (whole (ownOf rows n)) (λ z. d (let y : pos (o n) ≡ pos 0 = sym (own-of n h) ∙ z in let w : o n ≡ 0 = cc in w)))
+      (≈-trans (ring ringOfFractions 3 (λ v w u. (v ⊖ w) ⊗ u ≐ u ⊗ v ⊖ u ⊗ w) tt _ _ _)
+      (+ℚ-cong (≈-refl _) (negℚ-cong (≈-trans (scaled-form (rowOf rows n) (S n)) (path (ap (λ r. units ringOfFractions r (S n)) (row-of n h))))))))
+
+  shaped : (i : ℕ) → i < count → Shaped (f i)
+  shaped i h = fact c pass x went i h .shaped
+
+  later : (i n : ℕ) → i < count → i < n → FreeOf n (f i)
+  later i n h l = fact c pass x went i h .later n l
+
+  before : (n i : ℕ) → i < n → S n i ≈ φ i
+  before n i h = path (symbol-before c x rows n i h)
+
+  after : (n i : ℕ) → n ≤ i → S n i ≈ whole (pos 0)
+  after n i h = path (symbol-after c x rows n i h)
+
+  -- the induction over rows, here
+  result : AtFound orderedFractions count f o exact φ (S count)
+  result =
+      at-found orderedFractions count f o exact φ S shaped (own-is c pass x went) (alone c pass x went) later (owned c pass x went) before after none found
+      (λ n h ε u off same. row-encloses c pass x within went n h ε u off same)
+
+  -- ---- the statement's clauses
+  own-nonzero : (i : ℕ) → i < count → ownOf rows i ≢ pos 0 → o i ≢ 0
+  own-nonzero i h d e = d (own-of i h ∙ ap pos e)
+
+  own-nonzero-of : (i : ℕ) → i < count → o i ≢ 0 → ownOf rows i ≢ pos 0
+  own-nonzero-of i h d e = d (let y : pos (o i) ≡ pos 0 = sym (own-of i h) ∙ e in let w : o i ≡ 0 = cc in w)
+
+  -- a form's value and a form's units
+  form-is : (ε : ℕ → Fraction) (i : ℕ) → i < count → scaled (formValue (rowOf rows i) ε) ≈ units ringOfFractions (f i) ε
+  form-is ε i h = ≈-trans (scaled-form (rowOf rows i) ε) (path (ap (λ r. units ringOfFractions r ε) (row-of i h)))
+
+  iff : (ε : ℕ → Fraction)
+      → ((i : ℕ) → i < count → exactValue c x i ≈ formValue (rowOf rows i) ε) ↔ ((i : ℕ) → i < count → ownOf rows i ≢ pos 0 → ε i ≈ φ i)
+  iff ε = (
+    (λ e i h d. result .only ε (λ i h. ≈-trans (scaled-cong (e i h)) (form-is ε i h)) i h (own-nonzero i h d)),
+    (λ e i h. ≈-of-scaled (≈-trans (result .always ε (λ k l d. e k l (own-nonzero-of k l d)) i h) (≈-sym (form-is ε i h)))),
+  )
+
+  in-unit : (i : ℕ) → i < count → FromMinusOneToOne (φ i)
+  in-unit i h =
+      record {
+        not-below = not-below-of-≤ℚ (le-cong orderedFractions (ring ringOfFractions 0 (neg (con (pos 1)) ≐ con (negsuc 0)) tt) (≈-refl _) (result .bounded i h .low));
+        not-above = not-below-of-≤ℚ (result .bounded i h .high);
+      }
+
+  -- the exact value lies in the range of its row
+  row-range : (i : ℕ) → i < count → Within (low (f i)) (exactValue c x i) (high (f i))
+  row-range i h =
+      within-of-scaled
+      (le-cong orderedFractions (≈-refl _) (≈-sym (result .equal-there i h)) (low-holds-value orderedFractions (S count) (result .all-bounded) (f i) (shaped i h)))
+      (le-cong orderedFractions (≈-sym (result .equal-there i h)) (≈-refl _) (high-holds-value orderedFractions (S count) (result .all-bounded) (f i) (shaped i h)))
+
+  -- equal rows have equal exact values
+  row-values : (i j : ℕ) → i < count → j < count → f i ≡ f j → exactValue c x i ≈ exactValue c x j
+  row-values i j h k e =
+      ≈-of-scaled (≈-trans (result .equal-there i h) (≈-trans (path (ap (λ r. units ringOfFractions r (S count)) e)) (≈-sym (result .equal-there j k))))
+
+  -- ---- what the lent table holds
+  row-shaped : (j : ℕ) → j < count → Shaped (rowOf rows j)
+  row-shaped j h = subst Shaped (sym (row-of j h)) (shaped j h)
+
+  -- a table that still holds row i's numbers holds row i
+  held : (table lent : List ℤ) (i : ℕ) → i < count → StillHolds (tableAfter rows table) lent i → rowAt lent i ≡ f i
+  unfolding tableAfter
+  held table lent i h e =
+      ap rowOfNumbers
+      (e ∙ rowPart-numbers rows (drop (rowWidth * length rows) table) i (constantRow (pos 0)) (rw (length-grown (nextRow c) count) h)
+      (λ j l. length-numbers (rowOf rows j) (row-shaped j (rw (length-grown (nextRow c) count) at l))))
+      ∙ rowOfNumbers-numbers (rowOf rows i) (row-shaped i h)
+      ∙ row-of i h
+
+  -- the same, of a row by its number
+  held-row : (table lent : List ℤ) (i : ℕ) → i < count → StillHolds (tableAfter rows table) lent i → rowAt lent (suc i - 1) ≡ f i
+  held-row table lent i h e = let k : suc i - 1 ≡ i = omega arith in ap (rowAt lent) k ∙ held table lent i h e
+
+  -- ---- the answers of the calls
+  in-range : (table : List ℤ) (i : ℕ) → i < count → (lent : List ℤ) → StillHolds (tableAfter rows table) lent i → (n : ℕ) → rangeOf lent n (suc i) .refusal ≡ accepted
+      → Within (rangeOf lent n (suc i) .low) (exactValue c x i) (rangeOf lent n (suc i) .high)
+  in-range table i h lent e n a =
+      let told : rangeOf lent n (suc i) ≡ rangeTold (f i) = range-told lent n (suc i) a ∙ ap rangeTold (held-row table lent i h e) in
+      subst (λ (r : RangeAnswer). Within (r .low) (exactValue c x i) (r .high)) (sym told) (row-range i h)
+
+  same-values : (table : List ℤ) (i j : ℕ) → i < count → j < count → (lent : List ℤ) → StillHolds (tableAfter rows table) lent i → StillHolds (tableAfter rows table) lent j
+      → (n : ℕ) → sameOf lent n (suc i) (suc j) .refusal ≡ accepted → sameOf lent n (suc i) (suc j) .same ≡ true → exactValue c x i ≈ exactValue c x j
+  same-values table i j h k lent p q n a y =
+      let told : sameOf lent n (suc i) (suc j) ≡ compared (f i) (f j) = same-told lent n (suc i) (suc j) a ∙ ap₂ compared (held-row table lent i h p) (held-row table lent j k q) in
+      row-values i j h k (same-is-equal (f i) (f j) (shaped i h) (shaped j k) (sym (ap (λ (r : SameAnswer). r .same) told) ∙ y))
+
+  divisor-nonzero : (j : ℕ) → j < natural (c .steps) → natural (stepAt c j .code) ≡ lastCode → ¬ (exactValue c x (natural (stepAt c j .first) - 1) ≈ whole (pos 0))
+  divisor-nonzero j h e z =
+      let d = divisor-of c pass x went j h e in
+      let i = natural (stepAt c j .first) - 1 in
+      apart-nonzero (distance (f i)) (distance-is-end (low (f i)) (high (f i)) (d .1) .0)
+      (value-apart orderedFractions (S count) (result .all-bounded) (f i) (shaped i (d .0)) (d .1))
+      (≈-trans (≈-sym (result .equal-there i (d .0))) (≈-trans (scaled-cong z) (ring ringOfFractions 1 (λ u. u ⊗ con (pos 0) ≐ con (pos 0)) tt _)))
+
+  holds : (table : List ℤ) → Demand3 c rows (tableAfter rows table) x
+  holds table =
+      record {
+        equal-exactly-at-found = iff;
+        found-in-unit = λ i h d. in-unit i h;
+        divisor-nonzero = divisor-nonzero;
+        in-range = in-range table;
+        same-values = same-values table;
+      }
+
+-- an accepted evaluation passed 3, 4 and 5, and worked all its rows
+evaluation-went : (c : Schedule) (table : List ℤ) → evaluated c table .refusal ≡ accepted → Passed c × (Went c (rowCount c) × (evaluated c table .rows ≡ rowsUpTo c (rowCount c)))
+unfolding evaluated
+evaluation-went c table e = by-test (eqb (testOf c .number) 0) refl e refl
+  where
+    all : Worked
+    all = pick (leb (rowWidth * rowCount c) (length table)) (worked c (rowCount c)) (stopped [] tableTooShort)
+
+    by-room : Passed c → (t : Bool) → pick t (worked c (rowCount c)) (stopped [] tableTooShort) .refusal ≡ accepted
+        → Passed c × (Went c (rowCount c) × (pick t (worked c (rowCount c)) (stopped [] tableTooShort) .rows ≡ rowsUpTo c (rowCount c)))
+    by-room p true e = let w = went c (rowCount c) (ap (λ r. r .number) e) in (p, (w, w .rows))
+    by-room p false e = absurd (let z : _≡_ {A = ℕ} 8 0 = ap (λ r. r .number) e in omega arith)
+
+    by-test : (t : Bool) → eqb (testOf c .number) 0 ≡ t → pick t all (stopped [] (testOf c)) .refusal ≡ accepted → evaluated c table ≡ pick t all (stopped [] (testOf c))
+        → Passed c × (Went c (rowCount c) × (pick t all (stopped [] (testOf c)) .rows ≡ rowsUpTo c (rowCount c)))
+    by-test true q e s = by-room (passed c (eqb-true _ _ q)) (leb (rowWidth * rowCount c) (length table)) e
+    by-test false q e s = absurd (eqb-false _ _ q (ap (λ r. r .number) e))
+
+-- DEMAND 3. "Give the inputs of any accepted sheet whatever fractions within their ends" ..
+pub demand-3 : Demand-3
+demand-3 c table e x within =
+    let w = evaluation-went c table e in
+    subst (λ rows. Demand3 c rows (tableAfter rows table) x) (sym (w .1 .1)) (holds c (w .0) x within (w .1 .0) table)

@@ -1,0 +1,161 @@
+-- Document 01, "Proved examples" P1 to P13 and the listing of its example sheet, over the definitions that the contracts cite: cases as data, and
+-- one test that the checker evaluates.
+use mathlib.Core.Path.{_≡_, refl}
+use mathlib.Core.Bool.{Bool, true, false}
+use mathlib.Core.List.{List, [], _∷_, _++_, map}
+use Prim.Native.Nat.{ℕ, zero, suc, _-_, _*_}
+use lib.IntN.{ℤ, pos, negℤ}
+use lib.Dec.{eqb}
+use lib.ListN.{length, replicate}
+use Rattle.integer.specs.Floor.{floorQuotient, floorRemainder}
+use Rattle.affine.specs.declared.Row.{Row}
+use Rattle.affine.specs.Lists.{pick, at, tabulate, sum}
+use Rattle.affine.specs.PairOrder.{overPairs, firsts, seconds}
+use Rattle.affine.specs.Row.{span, low, high, agree, pairBelow, pairAbove, pairsBelow, pairsAbove}
+use Rattle.affine.specs.Product.{linearTotals, pairTotals, radius, squaredRadius, dropped, productOwn, productRow}
+use Rattle.affine.specs.Reciprocal.{candidateLinear, candidatePair, errorBound, reciprocalOwn, reciprocalRow}
+use Rattle.sheet.specs.declared.Schedule.{Schedule}
+use Rattle.sheet.specs.declared.Step.{Step}
+use Rattle.sheet.specs.declared.End.{End}
+use Rattle.sheet.specs.Lines.{zeroEnd, zeroStep, zeroSchedule, lineOf, numbers, store, countsPass, endsPass, stepPasses, fault}
+use Rattle.sheet.specs.Limits.{maxInputs, maxSteps}
+use Rattle.sheet.specs.Number.{run, judged, afterSign, fieldAt}
+use Rattle.sheet.specs.Reading.{readOf, readSheet, readLines, readAs, starts, fieldsFrom, fieldsAt}
+use Rattle.sheet.specs.Writing.{faultAt, testLines, testOf}
+use Rattle.evaluation.specs.Table.{rowWidth, allNumbers, tableAfter}
+use Rattle.evaluation.specs.Work.{Worked, rowCount, binaryAnswer, stepAnswer, rowAnswer, withAnswer, worked, evaluated}
+use Rattle.evaluation.specs.Asking.{rowRefusal, rowsRefusal, rangeOf, sameOf, partOf}
+use Rattle.evaluation.specs.Values.{rowOf, ownOf}
+
+abbrev minus : ℕ → ℤ
+minus n = negℤ (pos n)
+
+-- ---- schedules as data: ends and steps behind the counts
+ended : ℤ → ℤ → End
+ended low high = record { low = low; high = high }
+
+step : ℕ → ℕ → ℕ → ℤ → Step
+step code first second value = record { code = pos code; first = pos first; second = pos second; value = value }
+
+-- one input, so many squares, and steps; zeros behind them
+schedule : ℕ → End → List Step → Schedule
+schedule squares e steps =
+    record {
+      inputs = pos 1;
+      squares = pos squares;
+      steps = pos (length steps);
+      ends = e ∷ replicate (maxInputs - 1) zeroEnd;
+      step = steps ++ replicate (maxSteps - length steps) zeroStep;
+    }
+
+-- ---- what is shown of a case: number and place, and of the row with index i its centre, its coefficients of symbol 1, of pair (1,1) and its own,
+-- low and high
+evaluation : Schedule → Worked
+evaluation c = evaluated c (replicate (rowWidth * rowCount c) (pos 0))
+
+rowShown : List Row → ℕ → List ℤ
+rowShown rows i =
+    rowOf rows i .centre ∷ at (rowOf rows i .linear) 0 ∷ at (rowOf rows i .pair) 0 ∷ ownOf rows i ∷ low (rowOf rows i) ∷ high (rowOf rows i) ∷ []
+
+shown : Schedule → ℕ → List ℤ
+shown c i =
+    pos (evaluation c .refusal .number) ∷ pos (evaluation c .refusal .place)
+    ∷ pick (eqb (evaluation c .refusal .number) 0) (rowShown (evaluation c .rows) i) []
+
+record Case : Type 0 where
+  of : Schedule
+  row : ℕ
+  is : List ℤ
+
+case : Schedule → ℕ → List ℤ → Case
+case c i l = record { of = c; row = i; is = l }
+
+still : End
+still = ended (pos 0) (pos 0)
+
+-- a constant of which the last step is the reciprocal; two constants of which it is the product
+reciprocalOf : ℤ → Schedule
+reciprocalOf v = schedule 0 still (step 1 0 0 v ∷ step 5 2 0 (pos 0) ∷ [])
+
+productOf : ℤ → ℤ → Schedule
+productOf v w = schedule 0 still (step 1 0 0 v ∷ step 1 0 0 w ∷ step 4 2 3 (pos 0) ∷ [])
+
+-- a sheet has one step at least: a constant 0
+alone : End → Schedule
+alone e = schedule 0 e (step 1 0 0 (pos 0) ∷ [])
+
+square : ℕ → End → Schedule
+square squares e = schedule squares e (step 4 1 1 (pos 0) ∷ [])
+
+inverse : ℕ → End → Schedule
+inverse squares e = schedule squares e (step 5 1 0 (pos 0) ∷ [])
+
+wide : End
+wide = ended (pos 4096) (pos 8192)
+
+cases : List Case
+cases =
+    case (alone (ended (pos 0) (pos 1))) 0 (pos 0 ∷ pos 0 ∷ pos 0 ∷ pos 1 ∷ pos 0 ∷ pos 1 ∷ minus 1 ∷ pos 1 ∷ [])
+    ∷ case (alone (ended (minus 1) (pos 0))) 0 (pos 0 ∷ pos 0 ∷ minus 1 ∷ pos 1 ∷ pos 0 ∷ pos 1 ∷ minus 2 ∷ pos 0 ∷ [])
+    ∷ case (productOf (pos 1) (pos 1)) 3 (pos 0 ∷ pos 0 ∷ pos 0 ∷ pos 0 ∷ pos 0 ∷ pos 1 ∷ minus 1 ∷ pos 1 ∷ [])
+    ∷ case (productOf (minus 1) (pos 1)) 3 (pos 0 ∷ pos 0 ∷ minus 1 ∷ pos 0 ∷ pos 0 ∷ pos 1 ∷ minus 2 ∷ pos 0 ∷ [])
+    ∷ case (reciprocalOf (pos 8192)) 2 (pos 0 ∷ pos 0 ∷ pos 2048 ∷ pos 0 ∷ pos 0 ∷ pos 0 ∷ pos 2048 ∷ pos 2048 ∷ [])
+    ∷ case (reciprocalOf (pos 12288)) 2 (pos 0 ∷ pos 0 ∷ pos 1365 ∷ pos 0 ∷ pos 0 ∷ pos 1 ∷ pos 1364 ∷ pos 1366 ∷ [])
+    ∷ case (reciprocalOf (minus 12288)) 2 (pos 0 ∷ pos 0 ∷ minus 1366 ∷ pos 0 ∷ pos 0 ∷ pos 1 ∷ minus 1367 ∷ minus 1365 ∷ [])
+    ∷ case (square 1 wide) 1 (pos 0 ∷ pos 0 ∷ pos 9216 ∷ pos 6144 ∷ pos 1024 ∷ pos 0 ∷ pos 3072 ∷ pos 16384 ∷ [])
+    ∷ case (square 0 wide) 1 (pos 0 ∷ pos 0 ∷ pos 9216 ∷ pos 6144 ∷ pos 0 ∷ pos 1024 ∷ pos 2048 ∷ pos 16384 ∷ [])
+    ∷ case (inverse 1 wide) 1 (pos 0 ∷ pos 0 ∷ pos 2730 ∷ minus 911 ∷ pos 303 ∷ pos 155 ∷ pos 1664 ∷ pos 4099 ∷ [])
+    ∷ case (inverse 0 wide) 1 (pos 0 ∷ pos 0 ∷ pos 2730 ∷ minus 911 ∷ pos 0 ∷ pos 458 ∷ pos 1361 ∷ pos 4099 ∷ [])
+    ∷ case (inverse 0 (ended (pos 1) (pos 2))) 1 (pos 7 ∷ pos 2 ∷ [])
+    ∷ case (inverse 0 (ended (pos 1) (pos 3))) 1 (pos 0 ∷ pos 0 ∷ pos 8388608 ∷ minus 4194304 ∷ pos 0 ∷ pos 4194304 ∷ pos 0 ∷ pos 16777216 ∷ [])
+    ∷ case (productOf (pos 268435456) (pos 16384)) 3 (pos 0 ∷ pos 0 ∷ pos 1073741824 ∷ pos 0 ∷ pos 0 ∷ pos 0 ∷ pos 1073741824 ∷ pos 1073741824 ∷ [])
+    ∷ case (productOf (pos 268435456) (pos 16385)) 3 (pos 6 ∷ pos 4 ∷ [])
+    ∷ []
+
+examples-hold : map (λ k. shown (k .of) (k .row)) cases ≡ map (λ k. k .is) cases
+unfolding cases case still reciprocalOf productOf alone square inverse wide ended step schedule evaluation rowShown shown evaluated worked withAnswer rowAnswer stepAnswer binaryAnswer testOf testLines faultAt lineOf numbers fault countsPass endsPass stepPasses floorQuotient floorRemainder low high tabulate overPairs firsts seconds pairBelow pairAbove pairsBelow pairsAbove sum span linearTotals pairTotals radius squaredRadius dropped productOwn productRow candidateLinear candidatePair errorBound reciprocalOwn reciprocalRow
+examples-hold = refl
+
+-- ---- the example sheet of "What the program prints", byte by byte: (x + 1)² - 2x for x from -1/8 to 1/8
+sheetBytes : List ℕ
+sheetBytes =
+    105 ∷ 110 ∷ 112 ∷ 117 ∷ 116 ∷ 115 ∷ 32 ∷ 115 ∷ 113 ∷ 117 ∷ 97 ∷ 114 ∷ 101 ∷ 115 ∷ 32 ∷ 115 ∷ 116 ∷ 101 ∷ 112 ∷ 115 ∷ 10 ∷
+    49 ∷ 32 ∷ 49 ∷ 32 ∷ 54 ∷ 10 ∷
+    108 ∷ 111 ∷ 119 ∷ 32 ∷ 104 ∷ 105 ∷ 103 ∷ 104 ∷ 10 ∷
+    45 ∷ 53 ∷ 49 ∷ 50 ∷ 32 ∷ 53 ∷ 49 ∷ 50 ∷ 10 ∷
+    115 ∷ 116 ∷ 101 ∷ 112 ∷ 32 ∷ 102 ∷ 105 ∷ 114 ∷ 115 ∷ 116 ∷ 32 ∷ 115 ∷ 101 ∷ 99 ∷ 111 ∷ 110 ∷ 100 ∷ 32 ∷ 118 ∷ 97 ∷ 108 ∷ 117 ∷ 101 ∷ 10 ∷
+    49 ∷ 32 ∷ 48 ∷ 32 ∷ 48 ∷ 32 ∷ 52 ∷ 48 ∷ 57 ∷ 54 ∷ 10 ∷
+    50 ∷ 32 ∷ 49 ∷ 32 ∷ 50 ∷ 32 ∷ 48 ∷ 10 ∷
+    52 ∷ 32 ∷ 51 ∷ 32 ∷ 51 ∷ 32 ∷ 48 ∷ 10 ∷
+    49 ∷ 32 ∷ 48 ∷ 32 ∷ 48 ∷ 32 ∷ 56 ∷ 49 ∷ 57 ∷ 50 ∷ 10 ∷
+    52 ∷ 32 ∷ 53 ∷ 32 ∷ 49 ∷ 32 ∷ 48 ∷ 10 ∷
+    51 ∷ 32 ∷ 52 ∷ 32 ∷ 54 ∷ 32 ∷ 48 ∷ 10 ∷ []
+
+read : Schedule
+read = readOf sheetBytes .schedule
+
+-- the first of n rows from row `earlier` on that is the same as a row, or 0
+firstSame : List ℤ → ℕ → ℕ → ℕ → ℕ → ℕ
+firstSame table count row earlier zero = 0
+firstSame table count row earlier (suc n) = pick (sameOf table count earlier row .same) earlier (firstSame table count row (suc earlier) n)
+
+-- `row low high own same`
+line : List ℤ → ℕ → ℕ → List ℤ
+line table count row =
+    pos row ∷ rangeOf table count row .low ∷ rangeOf table count row .high ∷ at (partOf table count row) row ∷ pos (firstSame table count row 1 (row - 1)) ∷ []
+
+listing : List (List ℤ)
+listing =
+    tabulate (rowCount read) (λ i. line (tableAfter (evaluation read .rows) (replicate (rowWidth * rowCount read) (pos 0))) (rowCount read) (suc i))
+
+listing-holds : listing
+    ≡ ((pos 1 ∷ minus 512 ∷ pos 512 ∷ pos 512 ∷ pos 0 ∷ [])
+    ∷ (pos 2 ∷ pos 4096 ∷ pos 4096 ∷ pos 0 ∷ pos 0 ∷ [])
+    ∷ (pos 3 ∷ pos 3584 ∷ pos 4608 ∷ pos 0 ∷ pos 0 ∷ [])
+    ∷ (pos 4 ∷ pos 3072 ∷ pos 5184 ∷ pos 0 ∷ pos 0 ∷ [])
+    ∷ (pos 5 ∷ pos 8192 ∷ pos 8192 ∷ pos 0 ∷ pos 0 ∷ [])
+    ∷ (pos 6 ∷ minus 1024 ∷ pos 1024 ∷ pos 0 ∷ pos 0 ∷ [])
+    ∷ (pos 7 ∷ pos 4096 ∷ pos 4160 ∷ pos 0 ∷ pos 0 ∷ [])
+    ∷ [])
+unfolding sheetBytes read firstSame line listing readOf readSheet readLines readAs starts fieldsFrom fieldsAt run judged afterSign fieldAt store zeroSchedule evaluation evaluated worked withAnswer rowAnswer stepAnswer binaryAnswer testOf testLines faultAt lineOf numbers fault countsPass endsPass stepPasses allNumbers tableAfter rowRefusal rowsRefusal rangeOf sameOf partOf agree floorQuotient floorRemainder low high tabulate overPairs firsts seconds pairBelow pairAbove pairsBelow pairsAbove sum span linearTotals pairTotals radius squaredRadius dropped productOwn productRow
+listing-holds = refl

@@ -1,0 +1,139 @@
+-- Each row of accepted work encloses its exact value: by its line, the enclosure law of its operation.
+use mathlib.Core.Path.{_≡_, refl, sym, ap, _∙_, subst}
+use mathlib.Core.Logic.{_≢_, _⊎_, inl, inr}
+use mathlib.Core.List.{List, [], _∷_}
+use Prim.Native.Nat.{ℕ, zero, suc, _+_, _≤_, _<_}
+use native.Mathlib.Omega.{arith}
+use lib.IntN.{ℤ, pos, negsuc, natAbs, _-ℤ_}
+use Rattle.integer.specs.Fraction.{Fraction, _≈_, _≤ℚ_, _+ℚ_, _-ℚ_, _*ℚ_, negℚ, whole, reciprocal}
+use Rattle.integer.proofs.Certificate.{certify, hyp, eqn, nat, _⊞_, _⊠_, _≼_, _≋_, _⊢_}
+use Rattle.integer.proofs.Ring.{var, con, _⊕_, _⊖_, _⊗_, neg, _≐_, ring}
+use Rattle.integer.proofs.Order.{pos-≤ℤ}
+use Rattle.integer.proofs.Fraction.{ringOfFractions, orderedFractions, ≈-refl, ≈-sym, ≈-trans, +ℚ-cong, *ℚ-cong, ≤ℚ-of-not-below, times-reciprocal, ≈-zero-of-upper}
+use Rattle.integer.proofs.Bound.{Bound, le-cong, whole-le, whole-nonneg}
+use Rattle.affine.specs.declared.Row.{Row}
+use Rattle.affine.specs.Limits.{symbols, unit, unitSquared}
+use Rattle.affine.specs.Lists.{at}
+use Rattle.affine.specs.Steps.{constantRow, inputRow, addRows, subtractRows}
+use Rattle.affine.specs.Product.{productRow, productOwn}
+use Rattle.affine.specs.Reciprocal.{zeroInRange, distance, reciprocalRow, reciprocalOwn}
+use Rattle.affine.proofs.Form.{Shaped, UsesOnly, units}
+use Rattle.affine.proofs.FormBounds.{Unit-symbols}
+use Rattle.affine.proofs.StepLaws.{constant-exact, add-exact, subtract-exact, input-encloses}
+use Rattle.affine.proofs.Enclosure.{product-encloses, reciprocal-encloses, Apart, apart-square, value-apart, distance-is-end}
+use Rattle.affine.proofs.WellFormed.{input-own, product-own, reciprocal-own}
+use Rattle.affine.specs.Row.{low, high}
+use Rattle.sheet.specs.declared.Schedule.{Schedule}
+use Rattle.sheet.specs.Lines.{natural, endsAt}
+use Rattle.sheet.proofs.Passed.{Passed}
+use Rattle.evaluation.specs.Work.{rowCount}
+use Rattle.evaluation.specs.Demand3.{InputsWithin}
+use Rattle.evaluation.proofs.WorkLaws.{Went}
+use Rattle.evaluation.proofs.Made.{Made, is-input, is-constant, is-sum, is-difference, is-product, is-reciprocal, row, value, made}
+use Rattle.evaluation.proofs.RowFacts.{fact, own, own-is, count-small, squares-few}
+use Rattle.evaluation.proofs.FractionUnits.{scaled, scaled-inUnits, scaled-cong, scaled-above, scaled-below}
+
+pub negℚ-cong : {u v : Fraction} → u ≈ v → negℚ u ≈ negℚ v
+negℚ-cong {u} {v} e = certify orderedFractions 2 (λ u v. (u ≋ v) ∷ [] ⊢ (neg u ≋ neg v)) 0 (eqn (con (negsuc 0)) 0) tt u v e
+
+-- an exact row encloses, whatever its own coefficient
+exact-encloses : {X U : Fraction} (o : ℕ) → X ≈ U → Bound orderedFractions (X -ℚ U) (whole (pos o))
+exact-encloses {X} {U} o e =
+    record {
+      low = certify orderedFractions 3 (λ X U o. (X ≋ U) ∷ (con (pos 0) ≼ o) ∷ [] ⊢ (neg o ≼ X ⊕ neg U)) 0 (hyp 1 ⊞ eqn (con (pos 1)) 0) tt X U (whole (pos o)) e (whole-nonneg orderedFractions o);
+      high = certify orderedFractions 3 (λ X U o. (X ≋ U) ∷ (con (pos 0) ≼ o) ∷ [] ⊢ (X ⊕ neg U ≼ o)) 0 (hyp 1 ⊞ eqn (con (negsuc 0)) 0) tt X U (whole (pos o)) e (whole-nonneg orderedFractions o);
+    }
+
+-- a number at least 1 from 0 is not 0
+pub apart-nonzero : {X : Fraction} (a : ℕ) → 0 < a → Apart orderedFractions X (whole (pos a)) → ¬ (X ≈ whole (pos 0))
+apart-nonzero {X} a h l e =
+    impossible
+    (le-cong orderedFractions (≈-refl _) (≈-trans (*ℚ-cong e e) (ring ringOfFractions 0 (con (pos 0) ⊗ con (pos 0) ≐ con (pos 0)) tt))
+    (apart-square orderedFractions (whole-le orderedFractions (pos-≤ℤ h)) l))
+  where
+    impossible : whole (pos 1) ≤ℚ whole (pos 0) → ⊥
+    impossible q = q .cross .le
+
+module _ (c : Schedule) (passed : Passed c) (x : ℕ → Fraction) (within : InputsWithin c x) (went : Went c (rowCount c)) where
+  abbrev squares : ℕ
+  squares = natural (c .squares)
+
+  abbrev f : ℕ → Row
+  f n = row c passed x n
+
+  -- the exact value, in units
+  abbrev pub X : ℕ → Fraction
+  X n = scaled (value c passed x n)
+
+  module _ (n : ℕ) (h : n < rowCount c) (ε : ℕ → Fraction) (unital : Unit-symbols orderedFractions ε) (off : ε n ≈ whole (pos 0))
+      (same : (i : ℕ) → i < n → X i ≈ units ringOfFractions (f i) ε) where
+    -- over what the row and its value are made of
+    enclosed : {r : Row} {v : Fraction} → f n ≡ r → value c passed x n ≡ v
+        → Bound orderedFractions (scaled v -ℚ units ringOfFractions r ε) (whole (at (r .linear) n))
+        → Bound orderedFractions (X n -ℚ units ringOfFractions (f n) ε) (whole (pos (own c passed x went n)))
+    enclosed {r} {v} e q b =
+        subst (λ z. Bound orderedFractions (X n -ℚ units ringOfFractions (f n) ε) (whole z)) (own-is c passed x went n h)
+        (subst (λ r. Bound orderedFractions (X n -ℚ units ringOfFractions r ε) (whole (at (r .linear) n))) (sym e)
+        (subst (λ v. Bound orderedFractions (scaled v -ℚ units ringOfFractions r ε) (whole (at (r .linear) n))) (sym q) b))
+
+    -- a row without error
+    exact : {r : Row} {v : Fraction} → f n ≡ r → value c passed x n ≡ v → scaled v ≈ units ringOfFractions r ε
+        → Bound orderedFractions (X n -ℚ units ringOfFractions (f n) ε) (whole (pos (own c passed x went n)))
+    exact {r} {v} e q w =
+        exact-encloses (own c passed x went n)
+        (subst (λ r. X n ≈ units ringOfFractions r ε) (sym e) (subst (λ v. scaled v ≈ units ringOfFractions r ε) (sym q) w))
+
+    here : n < symbols
+    here = omega (arith, count-small c passed x went)
+
+    shape : (i : ℕ) → i < n → Shaped (f i)
+    shape i l = fact c passed x went i (omega arith) .shaped
+
+    by-origin : Made c passed x n → Bound orderedFractions (X n -ℚ units ringOfFractions (f n) ε) (whole (pos (own c passed x went n)))
+    by-origin (is-input l e v) =
+        enclosed e v
+        (subst (λ z. Bound orderedFractions (scaled (x n) -ℚ units ringOfFractions (inputRow n (endsAt c n .low) (endsAt c n .high)) ε) (whole z))
+        (sym (input-own n (endsAt c n .low) (endsAt c n .high) here))
+        (input-encloses orderedFractions n (endsAt c n .low) (endsAt c n .high) ε off (scaled (x n))
+        (scaled-above (≤ℚ-of-not-below (within n l .not-below))) (scaled-below (≤ℚ-of-not-below (within n l .not-above)))))
+    by-origin (is-constant l v e q) = exact e q (≈-trans (scaled-inUnits v) (≈-sym (constant-exact ringOfFractions v ε)))
+    by-origin (is-sum l i j hi hj e v) =
+        exact e v
+        (≈-trans (ring ringOfFractions 3 (λ u a b. u ⊗ (a ⊕ b) ≐ u ⊗ a ⊕ u ⊗ b) tt _ _ _)
+        (≈-trans (+ℚ-cong (same i hi) (same j hj)) (≈-sym (add-exact ringOfFractions (f i) (f j) (shape i hi) (shape j hj) ε))))
+    by-origin (is-difference l i j hi hj e v) =
+        exact e v
+        (≈-trans (ring ringOfFractions 3 (λ u a b. u ⊗ (a ⊖ b) ≐ u ⊗ a ⊖ u ⊗ b) tt _ _ _)
+        (≈-trans (+ℚ-cong (same i hi) (negℚ-cong (same j hj))) (≈-sym (subtract-exact ringOfFractions (f i) (f j) (shape i hi) (shape j hj) ε))))
+    by-origin (is-product l i j hi hj e v) =
+        enclosed e v
+        (subst (λ z. Bound orderedFractions (scaled (value c passed x i *ℚ value c passed x j) -ℚ units ringOfFractions (productRow squares n (f i) (f j)) ε) (whole z))
+        (sym (product-own squares n (f i) (f j) here))
+        (product-encloses orderedFractions ε unital squares (squares-few c passed x went) (f i) (f j) (shape i hi) (shape j hj) (uses i hi) (uses j hj) n off
+        (scaled (value c passed x i *ℚ value c passed x j))
+        (≈-trans (ring ringOfFractions 3 (λ u a b. u ⊗ (u ⊗ (a ⊗ b)) ≐ (u ⊗ a) ⊗ (u ⊗ b)) tt _ _ _) (*ℚ-cong (same i hi) (same j hj)))))
+      where
+        uses : (i : ℕ) → i < n → UsesOnly squares (f i)
+        uses i l = fact c passed x went i (omega arith) .uses
+    by-origin (is-reciprocal l i hi a e v) =
+        enclosed e v
+        (subst (λ z. Bound orderedFractions (scaled (reciprocal (value c passed x i)) -ℚ units ringOfFractions (reciprocalRow squares n (f i) (distance (f i))) ε) (whole z))
+        (sym (reciprocal-own squares n (f i) (distance (f i)) here))
+        (reciprocal-encloses orderedFractions ε unital (f i) (shape i hi) a squares (squares-few c passed x went) (fact c passed x went i (omega arith) .uses) n off
+        (scaled (reciprocal (value c passed x i))) inverse))
+      where
+        nonzero : ¬ (X i ≈ whole (pos 0))
+        nonzero z =
+            apart-nonzero (distance (f i)) (distance-is-end (low (f i)) (high (f i)) a .0) (value-apart orderedFractions ε unital (f i) (shape i hi) a) (≈-trans (≈-sym (same i hi)) z)
+
+        upper-nonzero : value c passed x i .upper ≢ pos 0
+        upper-nonzero z = nonzero (≈-trans (*ℚ-cong (≈-refl _) (≈-zero-of-upper z)) (ring ringOfFractions 1 (λ u. u ⊗ con (pos 0) ≐ con (pos 0)) tt _))
+
+        inverse : scaled (reciprocal (value c passed x i)) *ℚ units ringOfFractions (f i) ε ≈ whole (pos unitSquared)
+        inverse =
+            ≈-trans (*ℚ-cong (≈-refl _) (≈-sym (same i hi)))
+            (certify orderedFractions 2 (λ v r. (v ⊗ r ≋ con (pos 1)) ∷ [] ⊢ ((con (pos unit) ⊗ r) ⊗ (con (pos unit) ⊗ v) ≋ con (pos unitSquared))) 0 (eqn (con (pos unitSquared)) 0) tt
+            (value c passed x i) (reciprocal (value c passed x i)) (times-reciprocal (value c passed x i) upper-nonzero))
+
+    pub row-encloses : Bound orderedFractions (X n -ℚ units ringOfFractions (f n) ε) (whole (pos (own c passed x went n)))
+    row-encloses = by-origin (made c passed x went n h)

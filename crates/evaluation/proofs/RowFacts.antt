@@ -1,0 +1,162 @@
+-- What holds of every row of accepted work: its shape, its pairs, the symbols on which it depends, and its own coefficient.
+use mathlib.Core.Path.{_≡_, refl, sym, ap, ap₂, _∙_, subst}
+use mathlib.Core.Logic.{_≢_, _⊎_, inl, inr}
+use mathlib.Core.Bool.{true}
+use Prim.Native.Nat.{ℕ, zero, suc, _+_, _-_, _≤_, _<_}
+use native.Mathlib.Nat.{eq-or-lt-of-le}
+use native.Mathlib.Omega.{arith}
+use lib.IntN.{ℤ, pos, natAbs, _+ℤ_, _-ℤ_}
+use lib.Dec.{T}
+use lib.Signed.{leZ, _≤ℤ_, leZ-yes}
+use Rattle.integer.specs.Fraction.{Fraction}
+use Rattle.integer.proofs.Order.{pos-≤ℤ}
+use Rattle.integer.proofs.Absolute.{natAbs-of-nonneg}
+use Rattle.affine.specs.declared.Row.{Row}
+use Rattle.affine.specs.Limits.{symbols, paired}
+use Rattle.affine.specs.Lists.{at}
+use Rattle.affine.specs.Steps.{constantRow, inputRow, addRows, subtractRows, inputCentre}
+use Rattle.affine.specs.Product.{productOwn, productRow}
+use Rattle.affine.specs.Reciprocal.{reciprocalRow, reciprocalOwn, distance}
+use Rattle.affine.proofs.Form.{Shaped, UsesOnly}
+use Rattle.affine.proofs.Support.{FreeOf, NoPairOf, constant-free, input-free, zip-free, product-free, reciprocal-free}
+use Rattle.affine.proofs.WellFormed.{constant-shaped, input-shaped, zip-shaped, product-shaped, reciprocal-shaped, constant-uses, input-uses, zip-uses, product-uses, reciprocal-uses, input-own, input-own-nonneg, product-own, reciprocal-own, free-no-pair, input-no-pair, product-no-pair, reciprocal-no-pair}
+use Rattle.sheet.specs.declared.Schedule.{Schedule}
+use Rattle.sheet.specs.Lines.{natural, endsAt}
+use Rattle.sheet.proofs.Passed.{Passed}
+use Rattle.evaluation.specs.Work.{rowCount}
+use Rattle.evaluation.proofs.Sequence.{complete}
+use Rattle.evaluation.proofs.Induction.{lt-or-ge}
+use Rattle.evaluation.proofs.WorkLaws.{Went}
+use Rattle.evaluation.proofs.Made.{Made, is-input, is-constant, is-sum, is-difference, is-product, is-reciprocal, row, value, made}
+
+-- how sums and differences are made, number by number
+abbrev plus : ℤ → ℤ → ℤ
+plus a b = a +ℤ b
+
+abbrev less : ℤ → ℤ → ℤ
+less a b = a -ℤ b
+
+module _ (c : Schedule) (passed : Passed c) (x : ℕ → Fraction) (went : Went c (rowCount c)) where
+  abbrev squares : ℕ
+  squares = natural (c .squares)
+
+  abbrev count : ℕ
+  count = rowCount c
+
+  pub count-small : count ≤ symbols
+  count-small = omega (arith, passed .counts .inputs-in .to, passed .counts .steps-in .to)
+
+  pub squares-few : squares ≤ paired
+  squares-few = omega (arith, passed .counts .inputs-in .to, passed .counts .squares-in .to)
+
+  -- a row of the sheet, what it was made of
+  abbrev f : ℕ → Row
+  f n = row c passed x n
+
+  origin : (n : ℕ) → n < count → Made c passed x n
+  origin n h = made c passed x went n h
+
+  -- ---- shape and pairs
+  pub record Fact (n : ℕ) : Type 0 where
+    pub shaped : Shaped (f n)
+    pub uses : UsesOnly squares (f n)
+    pub later : (m : ℕ) → n < m → FreeOf m (f n)
+
+  apart : {n m : ℕ} → n < m → m ≢ n
+  apart {n} {m} l e = absurd (let h : n < n = subst (λ k. n < k) e l in omega arith)
+
+  fact-of : (n : ℕ) {r : Row} → f n ≡ r → Shaped r → UsesOnly squares r → ((m : ℕ) → n < m → FreeOf m r) → Fact n
+  fact-of n e s u l =
+      record {
+        shaped = subst Shaped (sym e) s;
+        uses = subst (UsesOnly squares) (sym e) u;
+        later = λ m h. subst (FreeOf m) (sym e) (l m h);
+      }
+
+  pub fact : (n : ℕ) → n < count → Fact n
+  fact = complete (λ n. n < count → Fact n) (λ n ih h. by-origin n h ih (origin n h))
+    where
+      by-origin : (n : ℕ) → n < count → ((i : ℕ) → i < n → i < count → Fact i) → Made c passed x n → Fact n
+      by-origin n h ih (is-input l e v) =
+          fact-of n e (input-shaped n (endsAt c n .low) (endsAt c n .high)) (input-uses squares n (endsAt c n .low) (endsAt c n .high))
+          (λ m k. input-free m n (endsAt c n .low) (endsAt c n .high) (apart k))
+      by-origin n h ih (is-constant l v e q) = fact-of n e (constant-shaped v) (constant-uses squares v) (λ m k. constant-free m v)
+      by-origin n h ih (is-sum l i j hi hj e v) =
+          fact-of n e (zip-shaped plus (f i) (f j)) (zip-uses squares plus refl (f i) (f j) (ih i hi (omega arith) .uses) (ih j hj (omega arith) .uses))
+          (λ m k. zip-free m plus refl (f i) (f j) (ih i hi (omega arith) .later m (omega arith)) (ih j hj (omega arith) .later m (omega arith)))
+      by-origin n h ih (is-difference l i j hi hj e v) =
+          fact-of n e (zip-shaped less (f i) (f j)) (zip-uses squares less refl (f i) (f j) (ih i hi (omega arith) .uses) (ih j hj (omega arith) .uses))
+          (λ m k. zip-free m less refl (f i) (f j) (ih i hi (omega arith) .later m (omega arith)) (ih j hj (omega arith) .later m (omega arith)))
+      by-origin n h ih (is-product l i j hi hj e v) =
+          fact-of n e (product-shaped squares n (f i) (f j)) (product-uses squares n (f i) (f j))
+          (λ m k. product-free m squares n (f i) (f j) (apart k) (ih i hi (omega arith) .later m (omega arith)) (ih j hj (omega arith) .later m (omega arith)))
+      by-origin n h ih (is-reciprocal l i hi a e v) =
+          fact-of n e (reciprocal-shaped squares n (f i) (distance (f i))) (reciprocal-uses squares n (f i) (distance (f i)))
+          (λ m k. reciprocal-free m squares n (f i) (distance (f i)) (apart k) (ih i hi (omega arith) .later m (omega arith)))
+
+  -- an earlier row does not depend on the symbol of a later one
+  earlier-free : (n i : ℕ) → n < count → i < n → FreeOf n (f i)
+  earlier-free n i h l = fact i (omega arith) .later n l
+
+  -- ---- the own coefficient
+  abbrev pub own : ℕ → ℕ
+  own n = natAbs (at (f n .linear) n)
+
+  ordered : (a b : ℤ) → leZ a b ≡ true → a ≤ℤ b
+  ordered a b e = leZ-yes (subst T (sym e) tt)
+
+  own-nonneg : (n : ℕ) → n < count → pos 0 ≤ℤ at (f n .linear) n
+  own-nonneg n h = by-origin (origin n h)
+    where
+      here : n < symbols
+      here = omega (arith, count-small)
+
+      natural-own : {r : Row} {k : ℕ} → f n ≡ r → at (r .linear) n ≡ pos k → pos 0 ≤ℤ at (f n .linear) n
+      natural-own e q = subst (λ z. pos 0 ≤ℤ z) (sym (ap (λ r. at (r .linear) n) e ∙ q)) (pos-≤ℤ (omega arith))
+
+      by-origin : Made c passed x n → pos 0 ≤ℤ at (f n .linear) n
+      by-origin (is-input l e v) =
+          subst (λ z. pos 0 ≤ℤ z) (sym (ap (λ r. at (r .linear) n) e ∙ input-own n (endsAt c n .low) (endsAt c n .high) here))
+          (input-own-nonneg (endsAt c n .low) (endsAt c n .high) (ordered _ _ (passed .ends n l .order)))
+      by-origin (is-constant l v e q) = natural-own e (constant-free n v .linear)
+      by-origin (is-sum l i j hi hj e v) = natural-own e (zip-free n plus refl (f i) (f j) (earlier-free n i h hi) (earlier-free n j h hj) .linear)
+      by-origin (is-difference l i j hi hj e v) = natural-own e (zip-free n less refl (f i) (f j) (earlier-free n i h hi) (earlier-free n j h hj) .linear)
+      by-origin (is-product l i j hi hj e v) = natural-own e (product-own squares n (f i) (f j) here)
+      by-origin (is-reciprocal l i hi a e v) = natural-own e (reciprocal-own squares n (f i) (distance (f i)) here)
+
+  pub own-is : (n : ℕ) → n < count → at (f n .linear) n ≡ pos (own n)
+  own-is n h = sym (natAbs-of-nonneg (own-nonneg n h))
+
+  -- no pair holds the own symbol
+  pub alone : (n : ℕ) → n < count → NoPairOf n (f n)
+  alone n h = by-origin (origin n h)
+    where
+      by-origin : Made c passed x n → NoPairOf n (f n)
+      by-origin (is-input l e v) = subst (NoPairOf n) (sym e) (input-no-pair n n (endsAt c n .low) (endsAt c n .high))
+      by-origin (is-constant l v e q) = subst (NoPairOf n) (sym e) (free-no-pair n (constantRow v) (constant-free n v))
+      by-origin (is-sum l i j hi hj e v) = subst (NoPairOf n) (sym e) (free-no-pair n (addRows (f i) (f j)) (zip-free n plus refl (f i) (f j) (earlier-free n i h hi) (earlier-free n j h hj)))
+      by-origin (is-difference l i j hi hj e v) = subst (NoPairOf n) (sym e) (free-no-pair n (subtractRows (f i) (f j)) (zip-free n less refl (f i) (f j) (earlier-free n i h hi) (earlier-free n j h hj)))
+      by-origin (is-product l i j hi hj e v) = subst (NoPairOf n) (sym e) (product-no-pair n squares n (f i) (f j) (earlier-free n i h hi) (earlier-free n j h hj))
+      by-origin (is-reciprocal l i hi a e v) = subst (NoPairOf n) (sym e) (reciprocal-no-pair n squares n (f i) (distance (f i)) (earlier-free n i h hi))
+
+  -- "A symbol whose own coefficient is 0 has coefficient 0 in every row"
+  pub owned : (n m : ℕ) → n < count → m < count → own m ≡ 0 → FreeOf m (f n)
+  owned n m h hm z = complete (λ n. n < count → FreeOf m (f n)) (λ n ih h. by-place n h ih (lt-or-ge n m)) n h
+    where
+      by-origin : (n : ℕ) → m < n → n < count → ((i : ℕ) → i < n → i < count → FreeOf m (f i)) → Made c passed x n → FreeOf m (f n)
+      by-origin n k h ih (is-input l e v) = subst (FreeOf m) (sym e) (input-free m n (endsAt c n .low) (endsAt c n .high) (λ q. apart k (sym q)))
+      by-origin n k h ih (is-constant l v e q) = subst (FreeOf m) (sym e) (constant-free m v)
+      by-origin n k h ih (is-sum l i j hi hj e v) = subst (FreeOf m) (sym e) (zip-free m plus refl (f i) (f j) (ih i hi (omega arith)) (ih j hj (omega arith)))
+      by-origin n k h ih (is-difference l i j hi hj e v) = subst (FreeOf m) (sym e) (zip-free m less refl (f i) (f j) (ih i hi (omega arith)) (ih j hj (omega arith)))
+      by-origin n k h ih (is-product l i j hi hj e v) =
+          subst (FreeOf m) (sym e) (product-free m squares n (f i) (f j) (λ q. apart k (sym q)) (ih i hi (omega arith)) (ih j hj (omega arith)))
+      by-origin n k h ih (is-reciprocal l i hi a e v) =
+          subst (FreeOf m) (sym e) (reciprocal-free m squares n (f i) (distance (f i)) (λ q. apart k (sym q)) (ih i hi (omega arith)))
+
+      by-place : (n : ℕ) → n < count → ((i : ℕ) → i < n → i < count → FreeOf m (f i)) → (n < m) ⊎ (m ≤ n) → FreeOf m (f n)
+      by-place n h ih (inl l) = fact n h .later m l
+      by-place n h ih (inr l) = beyond (eq-or-lt-of-le l)
+        where
+          beyond : (m ≡ n) ⊎ (m < n) → FreeOf m (f n)
+          beyond (inl e) = subst (λ k. FreeOf m (f k)) e (record { linear = own-is m hm ∙ ap pos z; pair = alone m hm .pair })
+          beyond (inr k) = by-origin n k h ih (origin n h)

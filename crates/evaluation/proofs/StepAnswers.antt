@@ -1,0 +1,75 @@
+-- The answer of a row whose earlier rows stand in a table: an input's, or a step's by its code, from the rows read where its fields say.
+use mathlib.Core.Path.{_≡_, sym, ap, ap₂, _∙_, subst}
+use mathlib.Core.List.{List}
+use Prim.Native.Nat.{ℕ, _+_, _*_, _-_, _≤_, _<_}
+use native.Mathlib.Omega.{arith}
+use borrow.Author.Tests.{ne-eqb}
+use lib.IntN.{ℤ, pos}
+use lib.ListN.{length}
+use Rattle.affine.specs.declared.Row.{Row}
+use Rattle.affine.specs.declared.Answer.{Answer}
+use Rattle.affine.specs.Limits.{spanLimit}
+use Rattle.affine.specs.Row.{span}
+use Rattle.affine.specs.Steps.{constantRow, inputRow, checked}
+use Rattle.affine.specs.Reciprocal.{reciprocal}
+use Rattle.affine.proofs.Lists.{length-tabulate, getD-tabulate}
+use Rattle.sheet.specs.declared.Step.{Step}
+use Rattle.sheet.specs.declared.Schedule.{Schedule}
+use Rattle.sheet.specs.Lines.{natural, endsAt, stepAt}
+use Rattle.sheet.specs.Limits.{lastCode}
+use Rattle.sheet.proofs.Passing.{Natural}
+use Rattle.evaluation.specs.Table.{rowWidth, rowAt, rowsIn, RowsWithin}
+use Rattle.evaluation.specs.Work.{namedRow, binaryAnswer, stepAnswer, rowAnswer}
+use Rattle.evaluation.proofs.Made.{rowAnswer-input, rowAnswer-step}
+
+pub length-rowsIn : (table : List ℤ) (n : ℕ) → length (rowsIn table n) ≡ n
+unfolding rowsIn
+length-rowsIn table n = length-tabulate n (rowAt table)
+
+namedRow-rowsIn : (table : List ℤ) (n : ℕ) (z : ℤ) → Natural 1 n z → namedRow (rowsIn table n) z ≡ rowAt table (natural z - 1)
+unfolding rowsIn
+namedRow-rowsIn table n z h = getD-tabulate n (rowAt table) (constantRow (pos 0)) (natural z - 1) (omega (arith, h .from, h .to))
+
+-- a row read at the index that a field names
+module _ (table : List ℤ) {n k : ℕ} {z : ℤ} (named : Natural 1 n z) (index : k ≡ natural z) where
+  pub named-room : RowsWithin table n → rowWidth * (k - 1) + rowWidth ≤ length table
+  named-room w = omega (arith, w .room, named .from, named .to)
+
+  module _ {x : Row} (read : x ≡ rowAt table (k - 1)) where
+    pub named-span : RowsWithin table n → span x ≤ spanLimit
+    named-span w = subst (λ r. span r ≤ spanLimit) (sym read) (w .spans (k - 1) (omega (arith, named .from, named .to)))
+
+    pub named-is : x ≡ namedRow (rowsIn table n) z
+    named-is = read ∙ ap (λ m. rowAt table (m - 1)) index ∙ sym (namedRow-rowsIn table n z named)
+
+-- the answer, by the code
+module _ (squares : ℕ) (table : List ℤ) (n : ℕ) (t : Step) where
+  pub constant-step : {a : Answer} → natural (t .code) ≡ 1 → a ≡ checked (constantRow (t .value)) → a ≡ stepAnswer squares (rowsIn table n) t
+  unfolding stepAnswer
+  constant-step e q = q ∙ rw e
+
+  pub reciprocal-step : {a : Answer} {x : Row} → natural (t .code) ≡ lastCode → x ≡ namedRow (rowsIn table n) (t .first) → a ≡ reciprocal squares n x
+      → a ≡ stepAnswer squares (rowsIn table n) t
+  unfolding stepAnswer
+  reciprocal-step e named q = q ∙ ap₂ (reciprocal squares) (sym (length-rowsIn table n)) named ∙ rw e
+
+  pub binary-step : {a : Answer} {x y : Row} → (natural (t .code) ≡ 1 → ⊥) → (natural (t .code) ≡ lastCode → ⊥)
+      → x ≡ namedRow (rowsIn table n) (t .first) → y ≡ namedRow (rowsIn table n) (t .second) → a ≡ binaryAnswer squares n (t .code) x y
+      → a ≡ stepAnswer squares (rowsIn table n) t
+  unfolding stepAnswer
+  binary-step {a} {x} {y} not-constant not-reciprocal first second q =
+      q
+      ∙ ap (λ m. binaryAnswer squares m (t .code) x y) (sym (length-rowsIn table n))
+      ∙ ap₂ (binaryAnswer squares (length (rowsIn table n)) (t .code)) first second
+      ∙ rw (ne-eqb _ 1 not-constant, ne-eqb _ lastCode not-reciprocal)
+
+-- the answer, by the row's line
+module _ (c : Schedule) (table : List ℤ) (n : ℕ) where
+  pub input-answer : {a : Answer} → n < natural (c .inputs) → a ≡ checked (inputRow n (endsAt c n .low) (endsAt c n .high)) → a ≡ rowAnswer c (rowsIn table n)
+  input-answer h q = q ∙ sym (rowAnswer-input c (rowsIn table n) n (length-rowsIn table n) h)
+
+  -- squares and inputs: the counts, as read
+  pub step-answer : {a : Answer} {squares inputs : ℕ} → squares ≡ natural (c .squares) → inputs ≡ natural (c .inputs) → natural (c .inputs) ≤ n
+      → a ≡ stepAnswer squares (rowsIn table n) (stepAt c (n - inputs)) → a ≡ rowAnswer c (rowsIn table n)
+  step-answer e f h q =
+      q ∙ ap₂ (λ s k. stepAnswer s (rowsIn table n) (stepAt c (n - k))) e f ∙ sym (rowAnswer-step c (rowsIn table n) n (length-rowsIn table n) h)

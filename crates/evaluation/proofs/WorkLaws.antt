@@ -1,0 +1,110 @@
+-- What accepted work is made of: as many rows as were asked for, each accepted, and each made from the rows before it as its line says.
+use mathlib.Core.Path.{_≡_, refl, sym, ap, ap₂, _∙_, subst}
+use mathlib.Core.Logic.{_≢_, _⊎_, inl, inr}
+use mathlib.Core.Bool.{Bool, true, false}
+use mathlib.Core.List.{List, [], _∷_, _++_}
+use Prim.Native.Nat.{ℕ, zero, suc, _+_, _-_, _≤_, _<_}
+use native.Mathlib.Nat.{not-suc-le-zero, eq-or-lt-of-le, le-of-suc-le-suc}
+use native.Mathlib.Omega.{arith}
+use borrow.Author.Tests.{eqb-true, eqb-false, eq-eqb}
+use lib.Dec.{eqb, ltb}
+use lib.ListN.{length, getD}
+use Rattle.affine.specs.declared.Row.{Row}
+use Rattle.affine.specs.declared.Status.{Status}
+use Rattle.affine.specs.declared.Status.the-variants.{Accepted, SpanPassed, ZeroInRange}
+use Rattle.affine.specs.declared.Answer.{Answer}
+use Rattle.affine.specs.Lists.{pick}
+use Rattle.affine.specs.Row.{withinSpan}
+use Rattle.affine.specs.Steps.{checked, number, refused, accepted as acceptedRow}
+use Rattle.affine.specs.Reciprocal.{zeroInRange, distance, candidate, reciprocalRow, reciprocalApart, reciprocal}
+use Rattle.sheet.specs.declared.Schedule.{Schedule}
+use Rattle.sheet.specs.Causes.{refusal, accepted}
+use Rattle.evaluation.specs.Work.{Worked, onward, stopped, withAnswer, worked, rowAnswer}
+use Rattle.evaluation.proofs.Sequence.{grown, grown-suc, length-grown, getD-grown}
+
+-- the row that the work makes of the rows before it
+abbrev pub nextRow : Schedule → List Row → Row
+nextRow c rows = rowAnswer c rows .row
+
+-- the first n rows, if none is refused
+abbrev pub rowsUpTo : Schedule → ℕ → List Row
+rowsUpTo c n = grown (nextRow c) n
+
+number-zero : (s : Status) → number s ≡ 0 → s ≡ Accepted
+number-zero Accepted e = refl
+number-zero SpanPassed e = absurd (omega arith)
+number-zero ZeroInRange e = absurd (omega arith)
+
+pub record Went (c : Schedule) (n : ℕ) : Type 0 where
+  pub rows : worked c n .rows ≡ rowsUpTo c n
+  pub refusal : worked c n .refusal ≡ accepted
+  pub each : (i : ℕ) → i < n → rowAnswer c (rowsUpTo c i) .status ≡ Accepted
+
+answered : (rows : List Row) (a : Answer) → withAnswer rows a .refusal .number ≡ 0 → (a .status ≡ Accepted) × (withAnswer rows a ≡ onward (rows ++ (a .row ∷ [])))
+unfolding withAnswer
+answered rows a h = by-test (eqb (number (a .status)) 0) refl h
+  where
+    yes-rows : Worked
+    yes-rows = onward (rows ++ (a .row ∷ []))
+
+    no-rows : Worked
+    no-rows = stopped rows (refusal (number (a .status)) (suc (length rows)))
+
+    by-test : (t : Bool) → eqb (number (a .status)) 0 ≡ t → pick t yes-rows no-rows .refusal .number ≡ 0 → (a .status ≡ Accepted) × (pick t yes-rows no-rows ≡ yes-rows)
+    by-test true e h = (number-zero (a .status) (eqb-true _ _ e), refl)
+    by-test false e h = absurd (eqb-false _ _ e h)
+
+-- the rows worked and the answer that comes next
+moreWork : Schedule → ℕ → Worked
+moreWork c n = withAnswer (worked c n .rows) (rowAnswer c (worked c n .rows))
+
+went-on : (c : Schedule) (n : ℕ) → Went c n → moreWork c n .refusal .number ≡ 0 → worked c (suc n) ≡ moreWork c n → Went c (suc n)
+unfolding moreWork
+went-on c n w h e =
+    let a = answered (worked c n .rows) (rowAnswer c (worked c n .rows)) h in
+    let q : worked c (suc n) ≡ onward (rowsUpTo c (suc n)) =
+    e ∙ a .1 ∙ ap (λ rows. onward (rows ++ (nextRow c rows ∷ []))) (w .rows) ∙ ap onward (sym (grown-suc (nextRow c) n)) in
+    record {
+      rows = ap (λ v. v .rows) q;
+      refusal = ap (λ v. v .refusal) q;
+      each = λ i l. by-place i (eq-or-lt-of-le (le-of-suc-le-suc l)) (subst (λ rows. rowAnswer c rows .status ≡ Accepted) (w .rows) (a .0));
+    }
+  where
+    by-place : (i : ℕ) → (i ≡ n) ⊎ (i < n) → rowAnswer c (rowsUpTo c n) .status ≡ Accepted → rowAnswer c (rowsUpTo c i) .status ≡ Accepted
+    by-place i (inl p) s = subst (λ m. rowAnswer c (rowsUpTo c m) .status ≡ Accepted) (sym p) s
+    by-place i (inr l) s = w .each i l
+
+pub went : (c : Schedule) (n : ℕ) → worked c n .refusal .number ≡ 0 → Went c n
+unfolding worked grown moreWork
+went c zero h = record { rows = refl; refusal = refl; each = λ i l. absurd (not-suc-le-zero l) }
+went c (suc n) h = by-test (eqb (worked c n .refusal .number) 0) refl refl h (λ q. went c n q)
+  where
+    by-test : (t : Bool) → eqb (worked c n .refusal .number) 0 ≡ t → worked c (suc n) ≡ pick t (moreWork c n) (worked c n)
+        → pick t (moreWork c n) (worked c n) .refusal .number ≡ 0 → (worked c n .refusal .number ≡ 0 → Went c n) → Went c (suc n)
+    by-test false e q h ih = absurd (eqb-false _ _ e h)
+    by-test true e q h ih = went-on c n (ih (eqb-true _ _ e)) h q
+
+-- ---- what an accepted answer holds
+pub checked-accepted : (r : Row) → checked r .status ≡ Accepted → checked r .row ≡ r
+checked-accepted r h = by-test (withinSpan r) h
+  where
+    by-test : (t : Bool) → pick t (acceptedRow r) (refused SpanPassed) .status ≡ Accepted → pick t (acceptedRow r) (refused SpanPassed) .row ≡ r
+    by-test true h = refl
+    by-test false h = absurd (let z : number SpanPassed ≡ number Accepted = ap number h in omega arith)
+
+pub record Inverted (squares own : ℕ) (x : Row) : Type 0 where
+  pub apart : zeroInRange x ≡ false
+  pub row : reciprocal squares own x .row ≡ reciprocalRow squares own x (distance x)
+
+pub reciprocal-accepted : (squares own : ℕ) (x : Row) → reciprocal squares own x .status ≡ Accepted → Inverted squares own x
+reciprocal-accepted squares own x h = by-range (zeroInRange x) refl h refl
+  where
+    by-range : (t : Bool) → zeroInRange x ≡ t → pick t (refused ZeroInRange) (reciprocalApart squares own x (distance x)) .status ≡ Accepted
+        → reciprocal squares own x ≡ pick t (refused ZeroInRange) (reciprocalApart squares own x (distance x)) → Inverted squares own x
+    by-range true e h q = absurd (let z : number ZeroInRange ≡ number Accepted = ap number h in omega arith)
+    by-range false e h q = by-span (withinSpan (candidate squares x)) h q
+      where
+        by-span : (t : Bool) → pick t (checked (reciprocalRow squares own x (distance x))) (refused SpanPassed) .status ≡ Accepted
+            → reciprocal squares own x ≡ pick t (checked (reciprocalRow squares own x (distance x))) (refused SpanPassed) → Inverted squares own x
+        by-span true h q = record { apart = e; row = ap (λ a. a .row) q ∙ checked-accepted (reciprocalRow squares own x (distance x)) h }
+        by-span false h q = absurd (let z : number SpanPassed ≡ number Accepted = ap number h in omega arith)

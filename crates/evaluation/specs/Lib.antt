@@ -1,0 +1,5 @@
+pub mod Table
+pub mod Work
+pub mod Asking
+pub mod Values
+pub mod Demand3

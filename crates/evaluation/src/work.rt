@@ -1,0 +1,57 @@
+// All rows of a schedule, one after another, into a table.
+use crate::steps::row_answer;
+use crate::table::put_row;
+use affine::Status;
+use sheet::Refusal;
+use sheet::Schedule;
+ghost use mathlib.Core.Path.{_≡_};
+ghost use Prim.Native.Nat.{_*_, _≤_};
+ghost use lib.ListN.{length};
+ghost use Rattle.affine.specs.Steps.{number};
+ghost use Rattle.sheet.proofs.Passed.{Passed};
+ghost use Rattle.evaluation.specs.Table.{rowWidth, tableAfter};
+ghost use Rattle.evaluation.specs.Work.{rowCount, worked};
+
+// Document 01's number of an answer.
+fn status_number(s: Status) -> u64
+    ensures { λ r. ⌜ r ≡ number s ⌝ }
+{
+    match s {
+        Status::Accepted => 0,
+        Status::SpanPassed => 6,
+        Status::ZeroInRange => 7,
+    }
+}
+
+pub fn row_count(c: Schedule) -> usize
+    requires { ⌜ Passed c ⌝ }
+    ensures { λ r. ⌜ r ≡ rowCount c ⌝ }
+{
+    c.inputs as usize + c.steps as usize
+}
+
+pub fn work_rows(c: Schedule, table: &mut [i64], rows: usize) -> Refusal
+    requires { ⌜ Passed c × (rows ≡ rowCount c) × (rowWidth * rows ≤ length (now table)) ⌝ }
+    ensures answer { λ r. ⌜ r ≡ worked c rows .refusal ⌝ }
+    ensures left { λ r. ⌜ now (table .exit) ≡ tableAfter (worked c rows .rows) (now (table .entry)) ⌝ }
+{
+    let mut i: usize = 0;
+    while i < rows {
+        let a = row_answer(&*table, c, i);
+        let status = a.status;
+        let number = status_number(status);
+        if number != 0 {
+            return Refusal {
+                number,
+                place: i + 1,
+            };
+        }
+        let r = a.row;
+        put_row(&mut *table, i, r);
+        i += 1;
+    }
+    Refusal {
+        number: 0,
+        place: 0,
+    }
+}
