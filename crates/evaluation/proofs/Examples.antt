@@ -17,7 +17,8 @@ use Rattle.affine.specs.Reciprocal.{candidateLinear, candidatePair, errorBound,
 use Rattle.sheet.specs.declared.Schedule.{Schedule}
 use Rattle.sheet.specs.declared.Step.{Step}
 use Rattle.sheet.specs.declared.End.{End}
-use Rattle.sheet.specs.Lines.{zeroEnd, zeroStep, zeroSchedule, lineOf, numbers, store, countsPass, endsPass, stepPasses, fault}
+use Rattle.sheet.specs.Lines.{zeroEnd, zeroStep, zeroSchedule, lineOf, numbers, store}
+use Rattle.sheet.specs.Tests.{countsPass, endsPass, stepPasses, fault}
 use Rattle.sheet.specs.Limits.{maxInputs, maxSteps}
 use Rattle.sheet.specs.Number.{run, judged, afterSign, fieldAt}
 use Rattle.sheet.specs.Reading.{readOf, readSheet, readLines, readAs, starts, fieldsFrom, fieldsAt}

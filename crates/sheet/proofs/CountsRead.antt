@@ -7,7 +7,8 @@ use borrow.Author.Tests.{eqb-true, eqb-false}
 use lib.Dec.{eqb}
 use lib.ListN.{length, drop, length-append}
 use lib.IntN.{ℤ}
-use Rattle.sheet.specs.Lines.{zeroSchedule, linesLeft, lineOf, lineText, names, numbers, store, fault}
+use Rattle.sheet.specs.Lines.{zeroSchedule, linesLeft, lineOf, lineText, names, numbers, store}
+use Rattle.sheet.specs.Tests.{fault}
 use Rattle.sheet.specs.Reading.{padded, partRead, readAs, readLines}
 use Rattle.sheet.specs.Writing.{textAt, linesText}
 use Rattle.sheet.specs.declared.Schedule.{Schedule}

@@ -1,4 +1,4 @@
--- Laws of decimal numeral. Assumes nothing.
+-- Decimal text: its equations for the writer, and how long it can be.
 use mathlib.Core.Path.{_≡_, refl, ap, _∙_}
 use mathlib.Core.Bool.{true, false}
 use mathlib.Core.List.{List, [], _∷_, _++_}
@@ -29,18 +29,6 @@ decimal-more (suc k) n f h = simp (le-ltb _ _ h, sub-one)
 
 pub decimal-length : (k n : ℕ) → (k ≡ 0 → ⊥) → 10 ≤ n → length (decimal k n) ≡ length (decimal (k - 1) (n / 10)) + 1
 decimal-length k n f h = ap length (decimal-more k n f h) ∙ length-append (decimal (k - 1) (n / 10)) ((n % 10 + 48) ∷ [])
-
-pub decimal-short : (k n : ℕ) → length (decimal k n) ≤ k
-unfolding decimal
-decimal-short zero n = omega arith
-decimal-short (suc k) n = pick-elim (λ (l : List ℕ). length l ≤ suc k) (ltb n 10) _ _
-    (λ h. omega arith)
-    (λ h. rw (length-append (decimal k (n / 10)) ((n % 10 + 48) ∷ [])) (omega (arith, decimal-short k (n / 10))))
-
-pub numeral-short : (v : ℤ) → length (numeral v) ≤ 11
-unfolding numeral
-numeral-short (pos n) = omega (arith, decimal-short 10 n)
-numeral-short (negsuc n) = omega (arith, decimal-short 10 (suc n))
 
 -- the numeral goes by the machine's test of v < 0
 pub numeral-below : (z : ℤ) → SFits w64 z → ltZ (toZ w64 (ofZ w64 z)) (pos 0) ≡ true → numeral z ≡ 45 ∷ decimal 10 (natAbs z)

@@ -1,3 +1,4 @@
+-- The laws, from the number field up to the theorems. `RoundTrip` and `FirstFault` have the four theorems on sheets, `Passed` what evaluation cites.
 pub mod Choice
 pub mod Signs
 pub mod Digits
@@ -6,10 +7,10 @@ pub mod Numeral
 pub mod Written
 pub mod Prefix
 pub mod FieldLine
+pub mod LineKinds
 pub mod LineRead
 pub mod Passing
 pub mod SheetText
-pub mod LineKinds
 pub mod SheetRead
 pub mod Passed
 pub mod SheetLength
@@ -18,3 +19,4 @@ pub mod SheetWrite
 pub mod Trimmed
 pub mod RoundTrip
 pub mod FirstFault
+pub mod Examples

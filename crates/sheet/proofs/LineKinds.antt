@@ -9,7 +9,8 @@ use lib.ListN.{length, length-set}
 use lib.Seq.{getD-set-same, getD-set-other}
 use lib.IntN.{ℤ}
 use Rattle.sheet.specs.Limits.{maxInputs, maxSteps}
-use Rattle.sheet.specs.Lines.{lineOf, width, numbers, store, fault, endsOf, stepOf, zeroEnd, zeroStep, endNumbers, stepNumbers}
+use Rattle.sheet.specs.Lines.{lineOf, width, numbers, store, endsOf, stepOf, zeroEnd, zeroStep, endNumbers, stepNumbers}
+use Rattle.sheet.specs.Tests.{fault}
 use Rattle.sheet.specs.Reading.{padded}
 use Rattle.sheet.specs.declared.End.{End}
 use Rattle.sheet.specs.declared.Step.{Step}

@@ -8,7 +8,8 @@ use borrow.Author.Tests.{eq-eqb, ne-eqb, eqb-true, eqb-false}
 use lib.Dec.{eqb}
 use lib.ListN.{length, drop, length-drop, length-append}
 use Rattle.sheet.specs.Causes.{refusal, lineBroken}
-use Rattle.sheet.specs.Lines.{zeroSchedule, lineAt, linesLeft, names, width, store, fault}
+use Rattle.sheet.specs.Lines.{zeroSchedule, lineAt, linesLeft, names, width, store}
+use Rattle.sheet.specs.Tests.{fault}
 use Rattle.sheet.specs.Reading.{fieldsAt, starts, partRead, partRefused, valuesRead, readAs, readLine, readLines, readSheet}
 use Rattle.sheet.specs.declared.Schedule.{Schedule}
 use Rattle.sheet.specs.declared.Line.{Line}

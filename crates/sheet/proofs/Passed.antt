@@ -11,7 +11,8 @@ use lib.IntN.{ℤ, pos, negsuc, natAbs}
 use Rattle.sheet.specs.Choice.{pick}
 use Rattle.sheet.specs.Limits.{maxInputs, maxSteps, lastBinary, lastCode}
 use Rattle.sheet.specs.Causes.{accepted}
-use Rattle.sheet.specs.Lines.{natural, lineOf, lineAt, linesLeft, numbers, fault, endsAt, stepAt, countsPass, endsPass, stepPasses}
+use Rattle.sheet.specs.Lines.{natural, lineOf, lineAt, linesLeft, numbers, endsAt, stepAt}
+use Rattle.sheet.specs.Tests.{fault, countsPass, endsPass, stepPasses}
 use Rattle.sheet.specs.Writing.{faultAt, testLines, testOf}
 use Rattle.sheet.specs.declared.Schedule.{Schedule}
 use Rattle.sheet.specs.declared.Refusal.{Refusal}

@@ -9,7 +9,8 @@ use lib.Signed.{leZ}
 use lib.IntN.{ℤ, pos, negsuc, natAbs}
 use Rattle.sheet.specs.Choice.{pick}
 use Rattle.sheet.specs.Limits.{maxInputs, maxSteps, endLimit, lastBinary, lastCode}
-use Rattle.sheet.specs.Lines.{natural, between, isZero, withinLimit, namesRow, countsPass, endsPass, stepPasses, rowPasses, valuePasses}
+use Rattle.sheet.specs.Lines.{natural}
+use Rattle.sheet.specs.Tests.{between, isZero, withinLimit, namesRow, countsPass, endsPass, stepPasses, rowPasses, valuePasses}
 
 never : {X : Type 0} → _≡_ {A = Bool} false true → X
 never e = absurd (let y : _≡_ {A = ℕ} 0 1 = cc in omega arith)

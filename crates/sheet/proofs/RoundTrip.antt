@@ -13,7 +13,8 @@ use lib.ListN.{length, drop, take, length-append, drop-of-length-le}
 use lib.Seq.{sets}
 use Rattle.sheet.specs.Limits.{maxBytes}
 use Rattle.sheet.specs.Causes.{accepted}
-use Rattle.sheet.specs.Lines.{natural, zeroEnd, zeroStep, endsAt, stepAt, lineOf, lineAt, linesLeft, numbers, fault}
+use Rattle.sheet.specs.Lines.{natural, zeroEnd, zeroStep, endsAt, stepAt, lineOf, lineAt, linesLeft, numbers}
+use Rattle.sheet.specs.Tests.{fault}
 use Rattle.sheet.specs.Reading.{partRead, readLines, readSheet, readOf, answer}
 use Rattle.sheet.specs.Writing.{faultAt, testLines, testOf, linesText, sheetText, writeOf, leftOf}
 use Rattle.sheet.specs.Same.{Same, trimmed}

@@ -11,7 +11,8 @@ use Rattle.sheet.specs.Choice.{pick}
 use lib.IntN.{ℤ, pos, negsuc, natAbs}
 use Rattle.sheet.specs.Limits.{maxInputs, maxSteps, maxBytes, endLimit, lastBinary, lastCode}
 use Rattle.sheet.specs.Text.{numeral, decimal, line}
-use Rattle.sheet.specs.Lines.{natural, lineOf, lineAt, linesLeft, lineText, numbers, fault, endsAt, stepAt}
+use Rattle.sheet.specs.Lines.{natural, lineOf, lineAt, linesLeft, lineText, numbers, endsAt, stepAt}
+use Rattle.sheet.specs.Tests.{fault}
 use Rattle.sheet.specs.Writing.{faultAt, textAt, linesText, sheetText, testOf}
 use Rattle.sheet.specs.declared.Schedule.{Schedule}
 use Rattle.sheet.specs.declared.Line.{Line}

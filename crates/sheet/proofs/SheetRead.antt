@@ -13,7 +13,8 @@ use lib.ListN.{length, drop, length-append}
 use lib.Seq.{drop-drop}
 use lib.IntN.{ℤ}
 use Rattle.sheet.specs.Text.{line}
-use Rattle.sheet.specs.Lines.{natural, lineAt, lineText, names, width, numbers, store, fault}
+use Rattle.sheet.specs.Lines.{natural, lineAt, lineText, names, width, numbers, store}
+use Rattle.sheet.specs.Tests.{fault}
 use Rattle.sheet.specs.Reading.{padded, fieldsAt, starts, partRead, readAs, readLines}
 use Rattle.sheet.specs.Writing.{faultAt, textAt, linesText}
 use Rattle.sheet.specs.declared.Schedule.{Schedule}

@@ -8,7 +8,8 @@ use native.Mathlib.Omega.{arith}
 use borrow.Author.Tests.{eq-eqb, ne-eqb}
 use lib.ListN.{length, length-append}
 use Rattle.sheet.specs.Causes.{refusal, accepted}
-use Rattle.sheet.specs.Lines.{numbers, fault}
+use Rattle.sheet.specs.Lines.{numbers}
+use Rattle.sheet.specs.Tests.{fault}
 use Rattle.sheet.specs.Reading.{padded}
 use Rattle.sheet.specs.Writing.{faultAt, testLines, textAt, linesText}
 use Rattle.sheet.specs.declared.Schedule.{Schedule}

@@ -4,6 +4,7 @@ pub mod Causes
 pub mod Text
 pub mod Number
 pub mod Lines
+pub mod Tests
 pub mod Reading
 pub mod Writing
 pub mod Wrote

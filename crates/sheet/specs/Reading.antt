@@ -11,7 +11,8 @@ use Rattle.sheet.specs.Number.{fieldAt}
 use Rattle.sheet.specs.Text.{endByte}
 use Rattle.sheet.specs.Limits.{maxBytes}
 use Rattle.sheet.specs.Causes.{refusal, accepted, sheetTooLong, lineBroken}
-use Rattle.sheet.specs.Lines.{zeroSchedule, lineAt, linesLeft, names, width, store, fault}
+use Rattle.sheet.specs.Lines.{zeroSchedule, lineAt, linesLeft, names, width, store}
+use Rattle.sheet.specs.Tests.{fault}
 use Rattle.sheet.specs.declared.number.Field.{Field}
 use Rattle.sheet.specs.declared.number.Field.the-variants.{Number, Broken}
 use Rattle.sheet.specs.declared.Schedule.{Schedule}

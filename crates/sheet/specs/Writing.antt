@@ -7,7 +7,8 @@ use lib.ListN.{length}
 use lib.Seq.{sets}
 use Rattle.sheet.specs.Choice.{pick}
 use Rattle.sheet.specs.Causes.{refusal, accepted, bytesTooShort}
-use Rattle.sheet.specs.Lines.{lineAt, linesLeft, numbers, fault, lineText}
+use Rattle.sheet.specs.Lines.{lineAt, linesLeft, numbers, lineText}
+use Rattle.sheet.specs.Tests.{fault}
 use Rattle.sheet.specs.declared.Schedule.{Schedule}
 use Rattle.sheet.specs.declared.Refusal.{Refusal}
 use Rattle.sheet.specs.declared.WriteAnswer.{WriteAnswer}

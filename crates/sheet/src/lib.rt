@@ -4,11 +4,12 @@ ghost use Rattle.sheet.specs.Reading.{readOf};
 ghost use Rattle.sheet.specs.Writing.{testOf, Written};
 ghost use Rattle.sheet.specs.Lines.{zeroSchedule};
 
-pub mod number; // number.rt: a number field, read and written
-pub mod fields; // fields.rt: a line of fields, read and written
-pub mod lines; // lines.rt: what each line of a sheet holds, and the tests 3, 4 and 5
-pub mod reader; // reader.rt: a sheet, line by line
-pub mod writer; // writer.rt: a schedule tested and written, line by line
+mod number; // number.rt: a number field, read and written
+mod fields; // fields.rt: a line of fields, read and written
+pub mod lines; // lines.rt: what each line of a sheet holds
+mod tests; // tests.rt: the tests 3, 4 and 5 of a line's numbers
+mod reader; // reader.rt: a sheet, line by line
+mod writer; // writer.rt: a schedule tested and written, line by line
 
 // Limits of document 01; specs/Limits.antt has the same names for definitions and laws.
 pub const MAX_INPUTS: usize = 6;

@@ -1,8 +1,5 @@
-// What each line of a sheet holds, and the tests 3, 4 and 5 of its numbers.
-use crate::END_LIMIT;
+// What each line of a sheet holds, and where its numbers have their place in a schedule.
 use crate::End;
-use crate::LAST_BINARY;
-use crate::LAST_CODE;
 use crate::Line;
 use crate::MAX_INPUTS;
 use crate::MAX_STEPS;
@@ -146,7 +143,8 @@ fn with_counts(c: Schedule, v: [i64; 4]) -> Schedule
     }
 }
 
-fn ends_of(v: [i64; 4]) -> End
+// The ends that a line's numbers are.
+pub fn ends_of(v: [i64; 4]) -> End
     ensures { λ r. ⌜ r ≡ Spec.endsOf v ⌝ }
 {
     End {
@@ -155,7 +153,8 @@ fn ends_of(v: [i64; 4]) -> End
     }
 }
 
-fn step_of(v: [i64; 4]) -> Step
+// The step that a line's numbers are.
+pub fn step_of(v: [i64; 4]) -> Step
     ensures { λ r. ⌜ r ≡ Spec.stepOf v ⌝ }
 {
     Step {
@@ -177,103 +176,5 @@ pub fn store(c: Schedule, l: Line, v: [i64; 4]) -> Schedule
         Line::EndLine(i) => with_ends(c, i, ends_of(v)),
         Line::StepNames => c,
         Line::StepLine(i, _) => with_step(c, i, step_of(v)),
-    }
-}
-
-// Whether z lies from a to b.
-fn between(a: i64, z: i64, b: i64) -> bool
-    ensures { λ r. ⌜ r ≡ Spec.between a z b ⌝ }
-{
-    if a <= z { z <= b } else { false }
-}
-
-fn within_limit(z: i64) -> bool
-    ensures { λ r. ⌜ r ≡ Spec.withinLimit z ⌝ }
-{
-    between(0 - END_LIMIT, z, END_LIMIT)
-}
-
-// Whether counts stand within their limits.
-fn counts_pass(inputs: i64, squares: i64, steps: i64) -> bool
-    ensures { λ r. ⌜ r ≡ Spec.countsPass inputs squares steps ⌝ }
-{
-    if between(1, inputs, MAX_INPUTS as i64) {
-        if between(0, squares, inputs) {
-            return between(1, steps, MAX_STEPS as i64);
-        }
-    }
-    false
-}
-
-// Whether the ends of an input are within their limits and in order.
-fn ends_pass(e: End) -> bool
-    ensures { λ r. ⌜ r ≡ Spec.endsPass (e .low) (e .high) ⌝ }
-{
-    if within_limit(e.low) {
-        if within_limit(e.high) {
-            return e.low <= e.high;
-        }
-    }
-    false
-}
-
-// Whether z names one of the rows 1 to earlier.
-fn names_row(earlier: usize, z: i64) -> bool
-    ensures { λ r. ⌜ r ≡ Spec.namesRow earlier z ⌝ }
-{
-    if 1 <= z { natural(z) <= earlier } else { false }
-}
-
-// Whether a row field is right: it names an earlier row if it is used, and is 0 otherwise.
-fn row_passes(used: bool, earlier: usize, z: i64) -> bool
-    ensures { λ r. ⌜ r ≡ Spec.rowPasses used earlier z ⌝ }
-{
-    if used {
-        names_row(earlier, z)
-    } else {
-        between(0, z, 0)
-    }
-}
-
-// Whether a value field is right: a constant within the limits if it is used, and 0 otherwise.
-fn value_passes(used: bool, z: i64) -> bool
-    ensures { λ r. ⌜ r ≡ Spec.valuePasses used z ⌝ }
-{
-    if used {
-        within_limit(z)
-    } else {
-        between(0, z, 0)
-    }
-}
-
-// Whether a step's fields are right where so many rows are earlier.
-fn step_passes(earlier: usize, t: Step) -> bool
-    ensures { λ r. ⌜ r ≡ Spec.stepPasses earlier (t .code) (t .first) (t .second) (t .value) ⌝ }
-{
-    if between(1, t.code, LAST_CODE) {
-        if row_passes(2 <= t.code, earlier, t.first) {
-            if row_passes(between(2, t.code, LAST_BINARY), earlier, t.second) {
-                return value_passes(t.code <= 1, t.value);
-            }
-        }
-    }
-    false
-}
-
-// The cause for which the numbers of a line are refused, or 0.
-pub fn fault(l: Line, v: [i64; 4]) -> u64
-    ensures { λ r. ⌜ r ≡ Spec.fault l v ⌝ }
-{
-    match l {
-        Line::CountNames => 0,
-        Line::CountLine => if counts_pass(v[0], v[1], v[2]) { 0 } else { 3 },
-        Line::EndNames => 0,
-        Line::EndLine(_) => if ends_pass(ends_of(v)) { 0 } else { 4 },
-        Line::StepNames => 0,
-        Line::StepLine(_, earlier) => if step_passes(earlier, step_of(v)) {
-            0
-        } else {
-            5
-        },
     }
 }

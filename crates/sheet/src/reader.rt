@@ -4,6 +4,7 @@ use crate::Refusal;
 use crate::Schedule;
 use crate::fields;
 use crate::lines;
+use crate::tests;
 ghost use mathlib.Core.Path.{_≡_};
 ghost use Prim.Native.Nat.{_+_, _≤_, _<_, _^_};
 ghost use lib.ListN.{length, drop};
@@ -80,7 +81,7 @@ fn read_values(s: &[u8], at: usize, l: Line, n: usize, c: Schedule) -> Part
     let f = fields::fields_at(s, at, lines::width(l));
     if f.ok {
         let v = f.values;
-        let number = lines::fault(l, v);
+        let number = tests::fault(l, v);
         if number == 0 {
             part_read(f.next, lines::store(c, l, v))
         } else {
@@ -96,15 +97,13 @@ fn read_as(s: &[u8], at: usize, l: Line, n: usize, c: Schedule) -> Part
     requires { ⌜ at ≤ length (now s) ⌝ }
     ensures { λ r. ⌜ r ≡ readAs l n c (now (s .entry)) at ⌝ }
 {
-    if lines::width(l) == 0 {
-        if names_stand(s, at, l) {
-            part_read(at + names_length(l), c)
-        } else {
-            refused(2, n)
-        }
-    } else {
-        read_values(s, at, l, n, c)
+    if lines::width(l) != 0 {
+        return read_values(s, at, l, n, c);
     }
+    if names_stand(s, at, l) {
+        return part_read(at + names_length(l), c);
+    }
+    refused(2, n)
 }
 
 // The given number of text lines from a first one on.

@@ -4,6 +4,7 @@ use crate::Refusal;
 use crate::Schedule;
 use crate::fields;
 use crate::lines;
+use crate::tests;
 ghost use mathlib.Core.Path.{_≡_};
 ghost use Prim.Native.Nat.{_+_, _≤_, _<_, _^_};
 ghost use lib.ListN.{length};
@@ -16,7 +17,7 @@ fn fault_at(c: Schedule, n: usize) -> u64
     ensures { λ r. ⌜ r ≡ faultAt c n ⌝ }
 {
     let l = lines::line_of(lines::natural(c.inputs), n);
-    lines::fault(l, lines::numbers(c, l))
+    tests::fault(l, lines::numbers(c, l))
 }
 
 // The first faulty line among the given number of text lines from a first one on.

@@ -2,8 +2,8 @@
 use borrow.Author.Needs.{needs}
 use mathlib.Core.Path.{_≡_, sym, ap, _∙_}
 use Prim.Native.Nat.{ℕ, _-_}
+use Rattle.sheet.specs.Tests.{fault}
 use Rattle.sheet.specs.Lines.{width, store}
-use Rattle.sheet.specs.Lines as Spec
 use Rattle.sheet.specs.Reading.{fieldsAt, valuesRead, partRead, partRefused}
 use Rattle.sheet.specs.Causes.{refusal}
 use Rattle.sheet.specs.declared.Schedule.{Schedule}
@@ -43,7 +43,7 @@ returns c =
     let a = c .before .before .before .before .before .before .before .before .before .args in
     let f = c .before .before .before .before .before .before .fields-at .result in
     let e = fields-are (c .before .before .before .before .before .before) in
-    let t : Spec.fault (a .l) (f .values) ≡ 0 = sym (c .before .before .before .fault .ensures) ∙ c .before .before .if2 .taken in
+    let t : fault (a .l) (f .values) ≡ 0 = sym (c .before .before .before .fault .ensures) ∙ c .before .before .if2 .taken in
     c .part-read .ensures ∙ ap (λ (d : Schedule). partRead (f .next) d) (c .before .store .ensures) ∙ sym (values-read (a .n) (a .l) (a .c) f (c .before .before .before .before .before .if1 .taken) t) ∙ ap (valuesRead (a .n) (a .l) (a .c)) e
 
 returns-2 : tie.Need-returns-2

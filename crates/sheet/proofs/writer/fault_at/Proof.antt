@@ -4,6 +4,7 @@ use mathlib.Core.Path.{_≡_, ap, _∙_}
 use Prim.Native.Nat.{_-_}
 use mir.Syntax.{w64}
 use mir.Val.{toZ, ofZ}
+use Rattle.sheet.specs.Tests.{fault}
 use Rattle.sheet.specs.Lines.{natural, lineAt}
 use Rattle.sheet.specs.Lines as Spec
 use Rattle.sheet.specs.Writing.{faultAt}
@@ -30,7 +31,7 @@ returns c =
     let a = c .before .before .before .before .before .args in
     let e : toZ w64 (ofZ w64 (a .c .inputs)) ≡ a .c .inputs = search needs in
     let l : c .before .before .line-of .result ≡ lineAt (a .c) (a .n) = c .before .before .line-of .ensures ∙ rw (c .before .before .before .natural .ensures, e) in
-    c .fault .ensures ∙ rw (c .before .numbers .ensures) (fault-padded (c .before .before .line-of .result) (a .c)) ∙ ap (λ (m : Line). Spec.fault m (Spec.numbers (a .c) m)) l
+    c .fault .ensures ∙ rw (c .before .numbers .ensures) (fault-padded (c .before .before .line-of .result) (a .c)) ∙ ap (λ (m : Line). fault m (Spec.numbers (a .c) m)) l
 
 pub fault-at-spec : {M : Type 1} → statement M
 fault-at-spec =

@@ -2,9 +2,9 @@
 use Prim.Native.Nat.{_-_}
 use mir.Syntax.{w64}
 use mir.ValLaws.{toZ-ofZ}
-use Rattle.sheet.specs.Lines.{between}
-use Rattle.sheet.proofs.lines.between.Statement.{statement}
-use Rattle.sheet.proofs.lines.between.Tie as tie
+use Rattle.sheet.specs.Tests.{between}
+use Rattle.sheet.proofs.tests.between.Statement.{statement}
+use Rattle.sheet.proofs.tests.between.Tie as tie
 
 returns : tie.Need-returns
 returns c =

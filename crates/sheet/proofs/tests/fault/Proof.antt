@@ -4,29 +4,30 @@ use mathlib.Core.Path.{_≡_, sym, _∙_}
 use Prim.Native.Nat.{ℕ, _-_}
 use mir.Syntax.{w64}
 use mir.Val.{toZ, ofZ}
-use Rattle.sheet.specs.Lines.{countsPass, endsPass, stepPasses}
-use Rattle.sheet.specs.Lines as Spec
-use Rattle.sheet.proofs.lines.fault.Statement.{statement}
-use Rattle.sheet.proofs.lines.fault.Tie as tie
+use Rattle.sheet.specs.Lines.{item}
+use Rattle.sheet.specs.Tests.{countsPass, endsPass, stepPasses}
+use Rattle.sheet.specs.Tests as Spec
+use Rattle.sheet.proofs.tests.fault.Statement.{statement}
+use Rattle.sheet.proofs.tests.fault.Tie as tie
 
 -- what the tests answered, of the numbers of the line
 counts-are : (c : tie.After-counts-pass)
-    → countsPass (Spec.item (c .before .before .before .before .before .before .args .t2) 0) (Spec.item (c .before .before .before .before .before .before .args .t2) 1) (Spec.item (c .before .before .before .before .before .before .args .t2) 2) ≡ c .counts-pass .result
+    → countsPass (item (c .before .before .before .before .before .before .args .t2) 0) (item (c .before .before .before .before .before .before .args .t2) 1) (item (c .before .before .before .before .before .before .args .t2) 2) ≡ c .counts-pass .result
 counts-are c =
     let v = c .before .before .before .before .before .before .args .t2 in
-    let e : toZ w64 (ofZ w64 (Spec.item v 0)) ≡ Spec.item v 0 = search needs in
-    let f : toZ w64 (ofZ w64 (Spec.item v 1)) ≡ Spec.item v 1 = search needs in
-    let g : toZ w64 (ofZ w64 (Spec.item v 2)) ≡ Spec.item v 2 = search needs in
+    let e : toZ w64 (ofZ w64 (item v 0)) ≡ item v 0 = search needs in
+    let f : toZ w64 (ofZ w64 (item v 1)) ≡ item v 1 = search needs in
+    let g : toZ w64 (ofZ w64 (item v 2)) ≡ item v 2 = search needs in
     sym (rw (e, f, g) at (c .counts-pass .ensures))
 
-ends-are : (c : tie.After-ends-pass) → endsPass (Spec.item (c .before .before .before .before .args .t2) 0) (Spec.item (c .before .before .before .before .args .t2) 1) ≡ c .ends-pass .result
+ends-are : (c : tie.After-ends-pass) → endsPass (item (c .before .before .before .before .args .t2) 0) (item (c .before .before .before .before .args .t2) 1) ≡ c .ends-pass .result
 ends-are c = sym (rw (c .before .ends-of .ensures) at (c .ends-pass .ensures))
 
 abbrev earlier : tie.After-step-passes → ℕ
 earlier c = c .before .before .before .l .given .0 .1 .0
 
 step-is : (c : tie.After-step-passes)
-    → stepPasses (earlier c) (Spec.item (c .before .before .before .before .before .args .t2) 0) (Spec.item (c .before .before .before .before .before .args .t2) 1) (Spec.item (c .before .before .before .before .before .args .t2) 2) (Spec.item (c .before .before .before .before .before .args .t2) 3) ≡ c .step-passes .result
+    → stepPasses (earlier c) (item (c .before .before .before .before .before .args .t2) 0) (item (c .before .before .before .before .before .args .t2) 1) (item (c .before .before .before .before .before .args .t2) 2) (item (c .before .before .before .before .before .args .t2) 3) ≡ c .step-passes .result
 step-is c = sym (rw (c .before .step-of .ensures) at (c .step-passes .ensures))
 
 enum-told : tie.Need-enum-told

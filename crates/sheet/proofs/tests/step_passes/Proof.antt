@@ -5,11 +5,11 @@ use Prim.Native.Nat.{_-_}
 use lib.IntN.{pos}
 use mir.Syntax.{w64}
 use mir.Val.{toZ, ofZ}
-use Rattle.sheet.specs.Lines.{between, rowPasses, stepPasses}
+use Rattle.sheet.specs.Tests.{between, rowPasses, stepPasses}
 use Rattle.sheet.specs.Limits.{lastBinary, lastCode}
 use lib.Signed.{leZ}
-use Rattle.sheet.proofs.lines.step_passes.Statement.{statement}
-use Rattle.sheet.proofs.lines.step_passes.Tie as tie
+use Rattle.sheet.proofs.tests.step_passes.Statement.{statement}
+use Rattle.sheet.proofs.tests.step_passes.Tie as tie
 
 -- what the tests answered, of the fields themselves
 code-is : (c : tie.After-between) → between (pos 1) (c .before .before .args .t .code) (pos lastCode) ≡ c .between .result

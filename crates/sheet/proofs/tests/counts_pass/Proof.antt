@@ -5,10 +5,10 @@ use Prim.Native.Nat.{_-_}
 use lib.IntN.{pos}
 use mir.Syntax.{w64}
 use mir.ValLaws.{toZ-ofZ}
-use Rattle.sheet.specs.Lines.{between, countsPass}
+use Rattle.sheet.specs.Tests.{between, countsPass}
 use Rattle.sheet.specs.Limits.{maxInputs}
-use Rattle.sheet.proofs.lines.counts_pass.Statement.{statement}
-use Rattle.sheet.proofs.lines.counts_pass.Tie as tie
+use Rattle.sheet.proofs.tests.counts_pass.Statement.{statement}
+use Rattle.sheet.proofs.tests.counts_pass.Tie as tie
 
 -- what `between` answered, of the counts themselves and not of what the machine reads back from their bits
 inputs-are : (c : tie.After-between) → between (pos 1) (c .before .args .inputs) (pos maxInputs) ≡ c .between .result

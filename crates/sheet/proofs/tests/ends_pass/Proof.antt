@@ -4,9 +4,9 @@ use mathlib.Core.Path.{_≡_, sym, _∙_}
 use Prim.Native.Nat.{_-_}
 use mir.Syntax.{w64}
 use mir.Val.{toZ, ofZ}
-use Rattle.sheet.specs.Lines.{withinLimit, endsPass}
-use Rattle.sheet.proofs.lines.ends_pass.Statement.{statement}
-use Rattle.sheet.proofs.lines.ends_pass.Tie as tie
+use Rattle.sheet.specs.Tests.{withinLimit, endsPass}
+use Rattle.sheet.proofs.tests.ends_pass.Statement.{statement}
+use Rattle.sheet.proofs.tests.ends_pass.Tie as tie
 
 -- what `within_limit` answered, of the ends themselves
 low-is : (c : tie.After-within-limit) → withinLimit (c .before .before .args .e .low) ≡ c .within-limit .result

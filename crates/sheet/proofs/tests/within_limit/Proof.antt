@@ -3,9 +3,9 @@ use borrow.Author.Needs.{needs}
 use Prim.Native.Nat.{_-_}
 use mir.Syntax.{w64}
 use mir.ValLaws.{toZ-ofZ}
-use Rattle.sheet.specs.Lines.{between}
-use Rattle.sheet.proofs.lines.within_limit.Statement.{statement}
-use Rattle.sheet.proofs.lines.within_limit.Tie as tie
+use Rattle.sheet.specs.Tests.{between}
+use Rattle.sheet.proofs.tests.within_limit.Statement.{statement}
+use Rattle.sheet.proofs.tests.within_limit.Tie as tie
 
 sub-between : tie.Need-sub-between
 sub-between c = search needs

@@ -6,8 +6,8 @@ use mir.Syntax.{w64}
 use mir.ValLaws.{toZ-ofZ}
 use Rattle.sheet.specs.Lines.{natural}
 use lib.Dec.{leb}
-use Rattle.sheet.proofs.lines.names_row.Statement.{statement}
-use Rattle.sheet.proofs.lines.names_row.Tie as tie
+use Rattle.sheet.proofs.tests.names_row.Statement.{statement}
+use Rattle.sheet.proofs.tests.names_row.Tie as tie
 
 natural-requires : tie.Need-natural-requires
 natural-requires c κs = search needs

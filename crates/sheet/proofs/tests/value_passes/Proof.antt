@@ -3,9 +3,9 @@ use borrow.Author.Needs.{needs}
 use Prim.Native.Nat.{_-_}
 use mir.Syntax.{w64}
 use mir.ValLaws.{toZ-ofZ}
-use Rattle.sheet.specs.Lines.{between}
-use Rattle.sheet.proofs.lines.value_passes.Statement.{statement}
-use Rattle.sheet.proofs.lines.value_passes.Tie as tie
+use Rattle.sheet.specs.Tests.{between}
+use Rattle.sheet.proofs.tests.value_passes.Statement.{statement}
+use Rattle.sheet.proofs.tests.value_passes.Tie as tie
 
 within-limit-requires : tie.Need-within-limit-requires
 within-limit-requires c κs = search needs
