@@ -3,17 +3,17 @@
 -- ring; multiply and reciprocal rest on one product law, and the rounding rule enters by one equation.
 use mathlib.Core.Path.{_≡_, refl, sym, ap, _∙_, subst}
 use mathlib.Core.Bool.{Bool, true, false}
-use mathlib.Core.List.{List, [], _∷_, map}
+use mathlib.Core.List.{[], _∷_}
 use mathlib.Core.Logic.{_⊎_, inl, inr}
-use Prim.Native.Nat.{ℕ, zero, suc, _+_, _*_, _≤_, _<_}
+use Prim.Native.Nat.{ℕ, zero, suc, _+_, _≤_, _<_}
 use native.Mathlib.Nat.{mul-comm}
 use native.Mathlib.Omega.{arith}
 use borrow.Author.Tests.{lt-ltb}
 use lib.Dec.{T, leb·zero}
-use lib.IntN.{ℤ, pos, negsuc, negℤ, natAbs, _+ℤ_, _-ℤ_, _*ℤ_, *ℤ-comm}
+use lib.IntN.{ℤ, pos, negsuc, negℤ, natAbs, _+ℤ_, _*ℤ_, *ℤ-comm}
 use lib.Signed.{leZ, ltZ}
 use Rattle.integer.specs.Floor.{floorQuotient, floorRemainder, ceilingQuotient}
-use Rattle.integer.proofs.Ring.{CommutativeRing, var, con, _⊕_, _⊖_, _⊗_, neg, _≐_, ring}
+use Rattle.integer.proofs.Ring.{CommutativeRing, con, _⊕_, _⊖_, _⊗_, neg, _≐_, ring}
 use Rattle.integer.proofs.Certificate.{OrderedRing, certify, hyp, eqn, nat, _⊞_, _⊠_, _≼_, _≋_, _⊢_}
 use Rattle.integer.proofs.Order.{pos-≤ℤ}
 use Rattle.integer.proofs.Floor.{floor-divides, ceiling-covers}

@@ -1,20 +1,19 @@
 -- The value of a row's form, in units, and the product of two of them: the totals' form, and the products that no total holds.
 -- Over any commutative ring; the values of the symbols are a function of their index.
-use mathlib.Core.Path.{_≡_, refl, sym, ap, ap₂, _∙_, subst}
+use mathlib.Core.Path.{_≡_, refl, ap, subst}
 use mathlib.Core.Bool.{Bool, true, false}
-use mathlib.Core.List.{List, [], _∷_, _++_, map}
-use Prim.Native.Nat.{ℕ, zero, suc, _+_, _≤_, _<_}
-use native.Mathlib.Nat.{le-of-suc-le-suc}
+use mathlib.Core.List.{List, [], _∷_}
+use Prim.Native.Nat.{ℕ, zero, suc, _≤_, _<_}
 use native.Mathlib.Omega.{arith}
-use borrow.Author.Tests.{lt-ltb, le-ltb, ltb-true, ltb-false}
+use borrow.Author.Tests.{lt-ltb, le-ltb, ltb-true}
 use lib.Dec.{eqb, ltb, leb·suc-suc}
-use lib.IntN.{ℤ, pos, negsuc, _+ℤ_, _*ℤ_, +ℤ-idr, *ℤ-zero, zero-*ℤ}
-use lib.ListN.{length, getD, take, drop}
-use Rattle.integer.proofs.Ring.{CommutativeRing, Expression, var, con, _⊕_, _⊖_, _⊗_, neg, _≐_, ring}
+use lib.IntN.{ℤ, pos, _+ℤ_, _*ℤ_, *ℤ-zero, zero-*ℤ}
+use lib.ListN.{length, take}
+use Rattle.integer.proofs.Ring.{CommutativeRing, con, _⊕_, _⊖_, _⊗_, _≐_, ring}
 use Rattle.affine.specs.declared.Row.{Row}
 use Rattle.affine.specs.Limits.{symbols, paired, pairs}
 use Rattle.affine.specs.Lists.{pick, at, tabulate}
-use Rattle.affine.specs.PairOrder.{overPairs, firsts, seconds, firstOf, secondOf, inUse}
+use Rattle.affine.specs.PairOrder.{firstOf, secondOf, inUse}
 use Rattle.affine.specs.Product.{crosswise, meeting, linearTotals, pairTotals, totals}
 use Rattle.affine.proofs.Lists.{tabulate-cong, tabulate-at}
 use Rattle.affine.proofs.PairOrder.{first-le-second}

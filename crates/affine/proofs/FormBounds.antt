@@ -1,27 +1,22 @@
 -- Bounds of a form's value where every symbol lies from -1 to 1: by the span, by the range, and the products that no total holds by the
 -- dropped part. Over any ordered ring.
-use mathlib.Core.Path.{_≡_, refl, sym, ap, ap₂, _∙_, subst}
-use mathlib.Core.Bool.{Bool, true, false}
-use mathlib.Core.List.{List, [], _∷_, _++_, map}
-use Prim.Native.Nat.{ℕ, zero, suc, _+_, _*_, _-_, _≤_, _<_}
+use mathlib.Core.Path.{_≡_, sym, ap, _∙_, subst}
+use mathlib.Core.List.{_++_}
+use Prim.Native.Nat.{ℕ, _+_, _*_, _-_}
 use native.Mathlib.Nat.{add-mul, mul-add}
 use native.Mathlib.Omega.{arith}
-use borrow.Author.Tests.{eqb-true}
-use lib.Dec.{eqb, eqb→eq}
-use lib.IntN.{ℤ, pos, negsuc, negℤ, natAbs, _+ℤ_, _-ℤ_, _*ℤ_}
-use lib.ListN.{length, getD, take, drop, take-append-drop}
+use lib.IntN.{pos, natAbs}
+use lib.ListN.{length, take, drop, take-append-drop}
 use Rattle.integer.specs.Sum.{sumAbs}
-use Rattle.integer.proofs.Ring.{CommutativeRing, Expression, var, con, _⊕_, _⊖_, _⊗_, neg, _≐_, ring}
-use Rattle.integer.proofs.Certificate.{OrderedRing, certify, hyp, eqn, nat, _⊞_, _⊠_, _≼_, _≋_, _⊢_}
-use Rattle.integer.proofs.Bound.{Bound, bound-add, bound-mul, bound-minus, bound-cong, bound-weaken, bound-whole, whole-nonneg, whole-minus, le-add, le-cong, le-refl, le-trans}
+use Rattle.integer.proofs.Ring.{CommutativeRing, con, _⊕_, _⊖_, _⊗_, _≐_, ring}
+use Rattle.integer.proofs.Certificate.{OrderedRing}
+use Rattle.integer.proofs.Bound.{Bound, bound-add, bound-mul, bound-cong, bound-whole}
 use Rattle.affine.specs.declared.Row.{Row}
-use Rattle.affine.specs.Limits.{symbols, paired, pairs}
-use Rattle.affine.specs.Lists.{pick, at, tabulate, sum}
-use Rattle.affine.specs.PairOrder.{firstOf, secondOf, isSquare}
-use Rattle.affine.specs.Row.{numbers, span, pairBelow, pairAbove, pairsBelow, pairsAbove, low, high}
+use Rattle.affine.specs.PairOrder.{firstOf, secondOf}
+use Rattle.affine.specs.Row.{numbers, span}
 use Rattle.affine.specs.Product.{radius, squaredRadius, dropped}
 use Rattle.integer.proofs.Sum.{sumAbs-append, dot, dot-path, dot-append, dot-within}
-use Rattle.affine.proofs.Form.{Shaped, pairValue, noise, units, squaredNoise}
+use Rattle.affine.proofs.Form.{pairValue, noise, units, squaredNoise}
 
 module _ (𝓞 : OrderedRing) where
   open CommutativeRing (𝓞 .ring) using (Carrier as C, eq as _~_, add as _⊹_, mul as _·_, minus, whole, eq-refl as rfl, eq-sym as sy, eq-trans as _⨟_, add-cong, mul-cong, whole-add, whole-mul)

@@ -1,19 +1,17 @@
 -- The product of two sums over symbols is one sum over the pairs of symbols: the products that meet in a pair, times the pair's two values.
 -- Over any commutative ring, by induction on the number of symbols along the order of the pairs.
-use mathlib.Core.Path.{_≡_, refl, sym, ap, ap₂, _∙_, subst, fun-ext}
-use mathlib.Core.Bool.{Bool, true, false}
-use mathlib.Core.List.{List, [], _∷_, _++_}
+use mathlib.Core.Path.{_≡_, sym, ap, _∙_, subst, fun-ext}
+use mathlib.Core.List.{List, _++_}
 use Prim.Native.Nat.{ℕ, zero, suc, _+_, _<_}
-use native.Mathlib.Omega.{arith}
 use lib.Dec.{eqb, eqb·zero-suc, eqb·suc-suc}
-use lib.IntN.{ℤ, pos, negsuc, _+ℤ_, _*ℤ_, *ℤ-comm}
-use lib.ListN.{length, getD, List·getD-append}
+use lib.IntN.{ℤ, pos, _+ℤ_, _*ℤ_, *ℤ-comm}
+use lib.ListN.{getD, List·getD-append}
 use lib.Seq.{getD-append-add}
-use Rattle.integer.proofs.Ring.{CommutativeRing, Expression, var, con, _⊕_, _⊖_, _⊗_, neg, _≐_, ring}
+use Rattle.integer.proofs.Ring.{CommutativeRing, con, _⊕_, _⊗_, _≐_, ring}
 use Rattle.affine.specs.Lists.{pick, tabulate}
 use Rattle.affine.specs.PairOrder.{overPairs, firsts, seconds}
 use Rattle.affine.proofs.Lists.{length-tabulate, getD-tabulate}
-use Rattle.affine.proofs.PairOrder.{pairCount, length-overPairs, getD-overPairs}
+use Rattle.affine.proofs.PairOrder.{length-overPairs, getD-overPairs}
 use Rattle.integer.proofs.Sum.{dot, dot-nil, dot-cons, dot-cong, dot-path, dot-append, dot-scale-values}
 use Rattle.affine.proofs.Dot.{dot-tabulate-add, dot-tabulate-scale}
 

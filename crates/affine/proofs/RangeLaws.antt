@@ -1,16 +1,16 @@
 -- The range of a row holds its form's value where every symbol lies from -1 to 1: each term is at most its reach, and the low end is the
 -- high end of the terms with their signs turned. Over any ordered ring.
-use mathlib.Core.Path.{_≡_, refl, sym, ap, _∙_, subst}
+use mathlib.Core.Path.{_≡_, refl, subst}
 use mathlib.Core.Bool.{Bool, true, false}
 use mathlib.Core.List.{List, [], _∷_}
 use Prim.Native.Nat.{ℕ, zero, suc, _+_, _<_}
 use native.Mathlib.Omega.{arith}
 use borrow.Author.Tests.{eqb-true}
-use lib.IntN.{ℤ, pos, negsuc, negℤ, natAbs, _+ℤ_, _-ℤ_}
+use lib.IntN.{ℤ, pos, negsuc, negℤ}
 use lib.ListN.{length}
 use Rattle.integer.specs.Sum.{sumAbs}
-use Rattle.integer.proofs.Ring.{CommutativeRing, var, con, _⊕_, _⊖_, _⊗_, neg, _≐_, ring}
-use Rattle.integer.proofs.Certificate.{OrderedRing, certify, hyp, eqn, nat, sqr, _⊞_, _⊠_, _≼_, _≋_, _⊢_}
+use Rattle.integer.proofs.Ring.{CommutativeRing, var, con, _⊕_, _⊗_, neg, _≐_, ring}
+use Rattle.integer.proofs.Certificate.{OrderedRing, certify, hyp, eqn, sqr, _⊞_, _⊠_, _≼_, _≋_, _⊢_}
 use Rattle.integer.proofs.Bound.{Bound, bound-mul, bound-whole, whole-nonneg, whole-minus, le-add, le-cong, le-refl}
 use Rattle.affine.specs.declared.Row.{Row}
 use Rattle.affine.specs.Limits.{pairs}

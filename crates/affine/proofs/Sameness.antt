@@ -1,11 +1,10 @@
 -- Two rows are called the same exactly when they are equal: the test of two lists is true exactly for equal lists.
-use mathlib.Core.Path.{_≡_, refl, sym, ap, ap₂, _∙_, subst}
+use mathlib.Core.Path.{_≡_, refl, sym, ap, ap₂, _∙_}
 use mathlib.Core.Bool.{Bool, true, false}
 use mathlib.Core.List.{List, [], _∷_, _++_}
-use Prim.Native.Nat.{ℕ, zero, suc, _+_}
 use borrow.Author.Tests.{eqb-true, eq-eqb}
 use lib.IntN.{ℤ, pos, negsuc}
-use lib.ListN.{length, take, drop}
+use lib.ListN.{take, drop}
 use lib.Seq.{take-at, drop-at}
 use Rattle.affine.specs.declared.Row.{Row}
 use Rattle.affine.specs.Limits.{symbols}

@@ -1,17 +1,17 @@
 -- Constants, sums and differences are exact, and an input's row encloses every value within its ends: the centre is rounded down, and the own
 -- coefficient reaches from it to the high end. In units, over any ordered ring.
-use mathlib.Core.Path.{_≡_, refl, sym, ap, ap₂, _∙_, subst}
+use mathlib.Core.Path.{_≡_, sym, ap, subst}
 use mathlib.Core.List.{List, [], _∷_}
-use Prim.Native.Nat.{ℕ, zero, suc, _<_}
+use Prim.Native.Nat.{ℕ, zero, suc}
 use native.Mathlib.Omega.{arith}
-use lib.IntN.{ℤ, pos, negsuc, negℤ, natAbs, _+ℤ_, _-ℤ_, _*ℤ_}
+use lib.IntN.{ℤ, pos, negsuc, _+ℤ_, _-ℤ_, _*ℤ_}
 use lib.Signed.{_≤ℤ_}
 use lib.ListN.{replicate}
-use Rattle.integer.specs.Floor.{floorQuotient, floorRemainder}
-use Rattle.integer.proofs.Ring.{CommutativeRing, var, con, _⊕_, _⊖_, _⊗_, neg, _≐_, ring}
-use Rattle.integer.proofs.IntegerRing.{ringℤ, one-*ℤ, negℤ-is-product}
+use Rattle.integer.specs.Floor.{floorRemainder}
+use Rattle.integer.proofs.Ring.{CommutativeRing, con, _⊕_, _⊖_, _⊗_, neg, _≐_, ring}
+use Rattle.integer.proofs.IntegerRing.{one-*ℤ, negℤ-is-product}
 use Rattle.integer.proofs.Linear.{linℤ, _⊴_, _≗_, _⇒_, so}
-use Rattle.integer.proofs.Certificate.{OrderedRing, certify, hyp, eqn, nat, _⊞_, _⊠_, _≼_, _≋_, _⊢_}
+use Rattle.integer.proofs.Certificate.{OrderedRing, certify, hyp, eqn, _⊞_, _≼_, _≋_, _⊢_}
 use Rattle.integer.proofs.Floor.{floor-divides, remainder-nonneg}
 use Rattle.integer.proofs.Bound.{Bound, whole-le, whole-minus}
 use Rattle.affine.specs.declared.Row.{Row}

@@ -1,27 +1,26 @@
 -- On which symbols a row depends. A symbol that stands in neither operand stands in no result but at its own row, and a form's value does not
 -- change with a symbol on which its row does not depend.
-use mathlib.Core.Path.{_≡_, refl, sym, ap, ap₂, _∙_, subst}
+use mathlib.Core.Path.{_≡_, refl, ap, ap₂, _∙_}
 use mathlib.Core.Logic.{_≢_, _⊎_, inl, inr}
 use mathlib.Core.Bool.{Bool, true, false}
 use mathlib.Core.List.{List, [], _∷_, map}
-use Prim.Native.Nat.{ℕ, zero, suc, _+_, _*_, _≤_, _<_}
+use Prim.Native.Nat.{ℕ, zero, suc, _<_}
 use native.Mathlib.Decide.{ℕ-discrete}
 use native.Mathlib.Omega.{arith}
 use lib.Dec.{eqb}
-use lib.IntN.{ℤ, pos, negsuc, negℤ, _+ℤ_, _-ℤ_, _*ℤ_, *ℤ-zero, zero-*ℤ}
-use lib.ListN.{length, getD, set, replicate}
+use lib.IntN.{ℤ, pos, negℤ, _+ℤ_, _*ℤ_, *ℤ-zero, zero-*ℤ}
+use lib.ListN.{replicate}
 use lib.Seq.{getD-set-other}
 use Rattle.integer.specs.Floor.{floorQuotient}
 use Rattle.integer.proofs.Floor.{zero-quotient}
-use Rattle.integer.proofs.Ring.{CommutativeRing, var, con, _⊕_, _⊖_, _⊗_, neg, _≐_, ring}
+use Rattle.integer.proofs.Ring.{CommutativeRing, _⊕_, _≐_, ring}
 use Rattle.affine.specs.declared.Row.{Row}
-use Rattle.affine.specs.Limits.{symbols, pairs, unit, unitSquared}
+use Rattle.affine.specs.Limits.{symbols, pairs, unit}
 use Rattle.affine.specs.Lists.{pick, at, tabulate}
 use Rattle.affine.specs.PairOrder.{firstOf, secondOf, inUse}
-use Rattle.affine.specs.Steps.{constantRow, withOwn, inputRow, inputCentre, zipRows, mapRow, addRows, subtractRows}
-use Rattle.affine.specs.Product.{crosswise, meeting, linearTotals, pairTotals, totals, productRounding, productOwn, productRow}
-use Rattle.affine.specs.Reciprocal.{slope, candidateLinear, candidatePair, candidate, reciprocalOwn, reciprocalRow}
-use Rattle.affine.proofs.Lists.{length-tabulate, at-tabulate}
+use Rattle.affine.specs.Steps.{constantRow, withOwn, inputRow, inputCentre, zipRows, mapRow}
+use Rattle.affine.specs.Product.{meeting, linearTotals, pairTotals, totals, productRounding, productRow}
+use Rattle.affine.specs.Reciprocal.{slope, candidateLinear, candidatePair, candidate, reciprocalRow}
 use Rattle.integer.proofs.Sum.{dot-same, dot-change}
 use Rattle.affine.proofs.Form.{Shaped, pairValue, units}
 

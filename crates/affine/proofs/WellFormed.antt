@@ -1,28 +1,24 @@
 -- Every row that an operation makes has a row's numbers, no coefficient at a pair that is not in use, and its own coefficient, which is not
 -- negative, at its own symbol alone.
-use mathlib.Core.Path.{_≡_, refl, sym, ap, ap₂, _∙_, subst}
-use mathlib.Core.Logic.{_≢_, _⊎_, inl, inr}
-use mathlib.Core.Bool.{Bool, true, false}
-use mathlib.Core.List.{List, [], _∷_, map}
-use Prim.Native.Nat.{ℕ, zero, suc, _+_, _≤_, _<_}
+use mathlib.Core.Path.{_≡_, refl, ap, ap₂, _∙_}
+use Prim.Native.Nat.{ℕ, zero, suc, _<_}
 use native.Mathlib.Omega.{arith}
-use lib.IntN.{ℤ, pos, negsuc, _+ℤ_, _-ℤ_, _*ℤ_}
+use lib.IntN.{ℤ, pos, _-ℤ_}
 use lib.Signed.{_≤ℤ_}
-use lib.ListN.{length, getD, set, replicate, length-set, length-map}
+use lib.ListN.{length, replicate, length-set, length-map}
 use lib.Seq.{getD-set-same}
 use Rattle.integer.proofs.Floor.{zero-quotient}
-use Rattle.integer.proofs.Linear.{linℤ, _⊴_, _≗_, _⇒_, so}
+use Rattle.integer.proofs.Linear.{linℤ, _⊴_, _⇒_, so}
 use Rattle.integer.proofs.Ring.{con, _⊕_, _⊖_, _⊗_}
 use Rattle.affine.specs.declared.Row.{Row}
 use Rattle.affine.specs.Limits.{symbols, pairs, unit}
-use Rattle.affine.specs.Lists.{pick, at, tabulate}
-use Rattle.affine.specs.PairOrder.{inUse}
+use Rattle.affine.specs.Lists.{at}
 use Rattle.affine.specs.Steps.{constantRow, withOwn, inputRow, inputCentre, zipRows, mapRow}
 use Rattle.affine.specs.Product.{linearTotals, pairTotals, totals, productRounding, productOwn, productRow}
-use Rattle.affine.specs.Reciprocal.{candidateLinear, candidatePair, candidate, reciprocalOwn, reciprocalRow}
+use Rattle.affine.specs.Reciprocal.{candidate, reciprocalOwn, reciprocalRow}
 use Rattle.affine.proofs.Lists.{length-tabulate, at-tabulate}
 use Rattle.affine.proofs.Form.{Shaped, UsesOnly}
-use Rattle.affine.proofs.Support.{FreeOf, NoPairOf, at-map, at-replicate, constant-free, totals-free, map-free, candidate-free}
+use Rattle.affine.proofs.Support.{FreeOf, NoPairOf, at-map, at-replicate, totals-free, map-free, candidate-free}
 use Rattle.affine.proofs.Enclosure.{candidate-shaped, candidate-uses}
 use Rattle.affine.proofs.StepLaws.{centre-below-middle}
 

@@ -1,5 +1,5 @@
 -- Document 01, "What each row becomes": multiply.
-use mathlib.Core.List.{List, [], _∷_, map}
+use mathlib.Core.List.{List}
 use Prim.Native.Nat.{ℕ, _+_, _*_, _-_}
 use lib.Dec.{eqb}
 use lib.IntN.{ℤ, pos, _+ℤ_, _*ℤ_}
@@ -11,7 +11,7 @@ use Rattle.affine.specs.declared.Answer.{Answer}
 use Rattle.affine.specs.Limits.{symbols, pairs, unit}
 use Rattle.affine.specs.Lists.{pick, at, tabulate}
 use Rattle.affine.specs.PairOrder.{firstOf, secondOf, inUse}
-use Rattle.affine.specs.Row.{numbers, span}
+use Rattle.affine.specs.Row.{span}
 use Rattle.affine.specs.Steps.{withOwn, mapRow, checked}
 
 -- "the linear products that meet in that pair (one for (i,i), two otherwise)"

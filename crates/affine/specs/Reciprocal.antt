@@ -1,9 +1,8 @@
 -- Document 01, "What each row becomes": reciprocal, "after method 3 of source document 000 (section 5.3) with its error taken from x times
 -- candidate less 1, as in (19)".
-use mathlib.Core.Bool.{Bool, true, false}
-use mathlib.Core.List.{List, [], _∷_, map}
+use mathlib.Core.Bool.{Bool, false}
+use mathlib.Core.List.{List}
 use Prim.Native.Nat.{ℕ, _+_}
-use lib.Dec.{leb}
 use lib.IntN.{ℤ, pos, negℤ, natAbs, _+ℤ_, _-ℤ_, _*ℤ_}
 use lib.Signed.{leZ, ltZ}
 use Rattle.integer.specs.Floor.{floorQuotient, ceilingQuotient}

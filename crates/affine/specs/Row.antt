@@ -1,12 +1,12 @@
 -- Document 01, "A row": its numbers, its span, its range.
 use mathlib.Core.Bool.{Bool, true, false}
-use mathlib.Core.List.{List, [], _∷_, _++_, map}
-use Prim.Native.Nat.{ℕ, zero, suc, _+_}
+use mathlib.Core.List.{List, [], _∷_, _++_}
+use Prim.Native.Nat.{ℕ, suc, _+_}
 use lib.Dec.{leb}
 use lib.IntN.{ℤ, pos, negsuc, natAbs, _+ℤ_, _-ℤ_}
 use Rattle.integer.specs.Sum.{sumAbs}
 use Rattle.affine.specs.declared.Row.{Row}
-use Rattle.affine.specs.Limits.{symbols, pairs, spanLimit}
+use Rattle.affine.specs.Limits.{pairs, spanLimit}
 use Rattle.affine.specs.Lists.{pick, at, tabulate, sum, equal}
 use Rattle.affine.specs.PairOrder.{isSquare}
 

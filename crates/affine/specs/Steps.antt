@@ -1,5 +1,5 @@
 -- Document 01, "What each row becomes": inputs, constants, sums and differences, and the answer of an operation.
-use mathlib.Core.List.{List, [], _∷_, map}
+use mathlib.Core.List.{map}
 use Prim.Native.Nat.{ℕ}
 use lib.IntN.{ℤ, pos, _+ℤ_, _-ℤ_}
 use lib.ListN.{set, replicate}

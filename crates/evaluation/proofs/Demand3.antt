@@ -3,25 +3,24 @@ use mathlib.Core.Path.{_≡_, refl, sym, ap, ap₂, _∙_, subst}
 use mathlib.Core.Logic.{_≢_, _⊎_, inl, inr, _↔_}
 use mathlib.Core.Bool.{Bool, true, false}
 use mathlib.Core.List.{List, [], _∷_, _++_}
-use Prim.Native.Nat.{ℕ, zero, suc, _+_, _*_, _-_, _≤_, _<_}
+use Prim.Native.Nat.{ℕ, zero, suc, _*_, _-_, _≤_, _<_}
 use native.Mathlib.Omega.{arith}
-use borrow.Author.Tests.{eqb-true, eqb-false, ne-eqb}
+use native.Mathlib.Decide.{ℕ-discrete}
+use borrow.Author.Tests.{eqb-false, ne-eqb, le-leb}
 use lib.Dec.{eqb, leb}
-use lib.IntN.{ℤ, pos, negsuc, natAbs}
-use lib.ListN.{length, getD, drop}
-use Rattle.integer.specs.Fraction.{Fraction, _≈_, _≤ℚ_, _+ℚ_, _-ℚ_, _*ℚ_, _/ℚ_, negℚ, whole}
-use Rattle.integer.proofs.Certificate.{certify, hyp, eqn, nat, _⊞_, _⊠_, _≼_, _≋_, _⊢_}
-use Rattle.integer.proofs.Ring.{var, con, _⊕_, _⊖_, _⊗_, neg, _≐_, ring}
+use lib.IntN.{ℤ, pos, negsuc}
+use lib.ListN.{length, getD}
+use Rattle.integer.specs.Fraction.{Fraction, _≈_, _-ℚ_, _*ℚ_, _/ℚ_, whole}
+use Rattle.integer.proofs.Ring.{con, _⊖_, _⊗_, neg, _≐_, ring}
 use Rattle.integer.proofs.Fraction.{ringOfFractions, orderedFractions, ≈-refl, ≈-sym, ≈-trans, +ℚ-cong, *ℚ-cong, times-quotient, not-below-of-≤ℚ}
-use Rattle.integer.proofs.Bound.{Bound, le-cong}
+use Rattle.integer.proofs.Bound.{le-cong}
 use Rattle.affine.specs.declared.Row.{Row}
-use Rattle.affine.specs.Limits.{unit}
+use Rattle.affine.specs.Limits.{symbols, spanLimit, unit}
 use Rattle.affine.specs.Lists.{pick, at, equal}
 use Rattle.affine.specs.Form.{formValue}
-use Rattle.affine.specs.Row.{low, high, same}
+use Rattle.affine.specs.Row.{span, low, high}
 use Rattle.affine.specs.Steps.{constantRow}
 use Rattle.affine.proofs.Form.{Shaped, units}
-use Rattle.affine.proofs.FormBounds.{Unit-symbols}
 use Rattle.affine.proofs.Support.{FreeOf}
 use Rattle.affine.proofs.RangeLaws.{low-holds-value, high-holds-value}
 use Rattle.affine.proofs.Sameness.{same-is-equal}
@@ -32,21 +31,23 @@ use Rattle.sheet.specs.Causes.{accepted}
 use Rattle.sheet.specs.Limits.{lastCode}
 use Rattle.sheet.specs.Lines.{natural, stepAt}
 use Rattle.sheet.specs.Writing.{testOf}
-use Rattle.evaluation.specs.Table.{rowOfNumbers, rowAt, rowWidth, tableAfter}
-use Rattle.evaluation.specs.Work.{Worked, stopped, tableTooShort, rowCount, worked, evaluated}
+use Rattle.evaluation.specs.Table.{rowWidth, tableAfter, rowOfNumbers, rowAt, RowsWithin}
+use Rattle.evaluation.specs.Work.{rowCount, evaluated}
 use Rattle.evaluation.specs.Asking.{rowRefusal, rowsRefusal, rangeTold, rangeRefused, rangeOf, compared, notCompared, sameOf}
 use Rattle.evaluation.specs.declared.RangeAnswer.{RangeAnswer}
 use Rattle.evaluation.specs.declared.SameAnswer.{SameAnswer}
 use Rattle.evaluation.specs.Values.{Within, FromMinusOneToOne, exactValue, rowOf, ownOf, symbolsOf, nextFound, foundValues, foundValue}
 use Rattle.evaluation.specs.Demand3.{InputsWithin, StillHolds, Demand3, Demand-3}
 use Rattle.evaluation.proofs.Sequence.{grown, length-grown, getD-grown, getD-beyond}
-use Rattle.evaluation.proofs.Induction.{AtFound, at-found}
+use Rattle.evaluation.proofs.Induction.{AtFound, at-found, lt-or-ge}
 use Rattle.evaluation.proofs.WorkLaws.{nextRow, rowsUpTo, Went, went}
 use Rattle.sheet.proofs.Passed.{Passed, passed}
 use Rattle.evaluation.proofs.Made.{row, divisor-of}
-use Rattle.evaluation.proofs.RowFacts.{fact, own, own-is, alone, owned}
+use Rattle.evaluation.proofs.RowFacts.{fact, own, own-is, alone, owned, count-small}
 use Rattle.evaluation.proofs.RowEnclosure.{X, negℚ-cong, row-encloses, apart-nonzero}
-use Rattle.evaluation.proofs.TableLaws.{length-numbers, rowOfNumbers-numbers, rowPart-numbers}
+use Rattle.evaluation.proofs.SoundRows.{Sound, row-sound}
+use Rattle.evaluation.proofs.WorkedTable.{rowAt-tableAfter, rowsWithin-tableAfter}
+use Rattle.evaluation.proofs.EvaluationEnds.{ends-tested, ends-short, ends-worked}
 use Rattle.evaluation.proofs.FractionUnits.{scaled, scaled-form, scaled-cong, ≈-of-scaled, within-of-scaled}
 
 -- ---- found values grow as rows do
@@ -192,24 +193,34 @@ module _ (c : Schedule) (pass : Passed c) (x : ℕ → Fraction) (within : Input
       ≈-of-scaled (≈-trans (result .equal-there i h) (≈-trans (path (ap (λ r. units ringOfFractions r (S count)) e)) (≈-sym (result .equal-there j k))))
 
   -- ---- what the lent table holds
-  row-shaped : (j : ℕ) → j < count → Shaped (rowOf rows j)
-  row-shaped j h = subst Shaped (sym (row-of j h)) (shaped j h)
+  row-is-sound : (i : ℕ) → i < length rows → Sound (rowOf rows i)
+  row-is-sound i h =
+      let l : i < count = rw (length-grown (nextRow c) count) at h in
+      subst Sound (sym (row-of i l)) (row-sound c (rowsUpTo c i))
 
   -- a table that still holds row i's numbers holds row i
   held : (table lent : List ℤ) (i : ℕ) → i < count → StillHolds (tableAfter rows table) lent i → rowAt lent i ≡ f i
-  unfolding tableAfter
-  held table lent i h e =
-      ap rowOfNumbers
-      (e ∙ rowPart-numbers rows (drop (rowWidth * length rows) table) i (constantRow (pos 0)) (rw (length-grown (nextRow c) count) h)
-      (λ j l. length-numbers (rowOf rows j) (row-shaped j (rw (length-grown (nextRow c) count) at l))))
-      ∙ rowOfNumbers-numbers (rowOf rows i) (row-shaped i h)
-      ∙ row-of i h
+  held table lent i h e = ap rowOfNumbers e ∙ rowAt-tableAfter rows table row-is-sound i (rw (length-grown (nextRow c) count) h) ∙ row-of i h
 
   -- the same, of a row by its number
   held-row : (table lent : List ℤ) (i : ℕ) → i < count → StillHolds (tableAfter rows table) lent i → rowAt lent (suc i - 1) ≡ f i
   held-row table lent i h e = let k : suc i - 1 ≡ i = omega arith in ap (rowAt lent) k ∙ held table lent i h e
 
   -- ---- the answers of the calls
+  answered : (table : List ℤ) → rowWidth * count ≤ length table → (i : ℕ) → i < count → rangeOf (tableAfter rows table) count (suc i) .refusal ≡ accepted
+  unfolding rangeOf rowRefusal
+  answered table room i h =
+      let k : length rows ≡ count = length-grown (nextRow c) count in
+      let w : RowsWithin (tableAfter rows table) (length rows) = rowsWithin-tableAfter rows table row-is-sound (rw k room) in
+      let v : RowsWithin (tableAfter rows table) count = rw k at w in
+      let m : suc i - 1 ≡ i = omega arith in
+      let a : leb 1 (suc i) ≡ true = le-leb 1 (suc i) (omega arith) in
+      let b : leb (suc i) count ≡ true = le-leb (suc i) count (omega arith) in
+      let d : leb count symbols ≡ true = le-leb count symbols (count-small c pass x went) in
+      let e : leb (rowWidth * count) (length (tableAfter rows table)) ≡ true = le-leb _ _ (v .room) in
+      let l : leb (span (rowAt (tableAfter rows table) (suc i - 1))) spanLimit ≡ true = rw m (le-leb _ _ (v .spans i h)) in
+      simp (a, b, d, e, l)
+
   in-range : (table : List ℤ) (i : ℕ) → i < count → (lent : List ℤ) → StillHolds (tableAfter rows table) lent i → (n : ℕ) → rangeOf lent n (suc i) .refusal ≡ accepted
       → Within (rangeOf lent n (suc i) .low) (exactValue c x i) (rangeOf lent n (suc i) .high)
   in-range table i h lent e n a =
@@ -230,36 +241,37 @@ module _ (c : Schedule) (pass : Passed c) (x : ℕ → Fraction) (within : Input
       (value-apart orderedFractions (S count) (result .all-bounded) (f i) (shaped i (d .0)) (d .1))
       (≈-trans (≈-sym (result .equal-there i (d .0))) (≈-trans (scaled-cong z) (ring ringOfFractions 1 (λ u. u ⊗ con (pos 0) ≐ con (pos 0)) tt _)))
 
-  holds : (table : List ℤ) → Demand3 c rows (tableAfter rows table) x
-  holds table =
+  holds : (table : List ℤ) → rowWidth * count ≤ length table → Demand3 c rows (tableAfter rows table) x
+  holds table room =
       record {
         equal-exactly-at-found = iff;
         found-in-unit = λ i h d. in-unit i h;
         divisor-nonzero = divisor-nonzero;
+        range-answered = answered table room;
         in-range = in-range table;
         same-values = same-values table;
       }
 
--- an accepted evaluation passed 3, 4 and 5, and worked all its rows
-evaluation-went : (c : Schedule) (table : List ℤ) → evaluated c table .refusal ≡ accepted → Passed c × (Went c (rowCount c) × (evaluated c table .rows ≡ rowsUpTo c (rowCount c)))
-unfolding evaluated
-evaluation-went c table e = by-test (eqb (testOf c .number) 0) refl e refl
+-- an accepted evaluation passed 3, 4 and 5, had room, and worked all its rows
+record Accepted-evaluation (c : Schedule) (table : List ℤ) : Type 0 where
+  pass : Passed c
+  room : rowWidth * rowCount c ≤ length table
+  goes : Went c (rowCount c)
+  rows : evaluated c table .rows ≡ rowsUpTo c (rowCount c)
+
+accepted-evaluation : (c : Schedule) (table : List ℤ) → evaluated c table .refusal ≡ accepted → Accepted-evaluation c table
+accepted-evaluation c table e = by-test (ℕ-discrete (testOf c .number) 0) (lt-or-ge (length table) (rowWidth * rowCount c))
   where
-    all : Worked
-    all = pick (leb (rowWidth * rowCount c) (length table)) (worked c (rowCount c)) (stopped [] tableTooShort)
+    by-test : Dec (testOf c .number ≡ 0) → (length table < rowWidth * rowCount c) ⊎ (rowWidth * rowCount c ≤ length table) → Accepted-evaluation c table
+    by-test (no z) r = absurd (z (sym (ap (λ w. w .refusal .number) (ends-tested c table z)) ∙ ap (λ f. f .number) e))
+    by-test (yes z) (inl l) = absurd (let q : _≡_ {A = ℕ} 8 0 = sym (ap (λ w. w .refusal .number) (ends-short c table z l)) ∙ ap (λ f. f .number) e in omega arith)
+    by-test (yes z) (inr l) =
+        let q = ends-worked c table z l in
+        let w = went c (rowCount c) (ap (λ f. f .number) (sym (ap (λ w. w .refusal) q) ∙ e)) in
+        record { pass = passed c z; room = l; goes = w; rows = ap (λ w. w .rows) q ∙ w .rows }
 
-    by-room : Passed c → (t : Bool) → pick t (worked c (rowCount c)) (stopped [] tableTooShort) .refusal ≡ accepted
-        → Passed c × (Went c (rowCount c) × (pick t (worked c (rowCount c)) (stopped [] tableTooShort) .rows ≡ rowsUpTo c (rowCount c)))
-    by-room p true e = let w = went c (rowCount c) (ap (λ r. r .number) e) in (p, (w, w .rows))
-    by-room p false e = absurd (let z : _≡_ {A = ℕ} 8 0 = ap (λ r. r .number) e in omega arith)
-
-    by-test : (t : Bool) → eqb (testOf c .number) 0 ≡ t → pick t all (stopped [] (testOf c)) .refusal ≡ accepted → evaluated c table ≡ pick t all (stopped [] (testOf c))
-        → Passed c × (Went c (rowCount c) × (pick t all (stopped [] (testOf c)) .rows ≡ rowsUpTo c (rowCount c)))
-    by-test true q e s = by-room (passed c (eqb-true _ _ q)) (leb (rowWidth * rowCount c) (length table)) e
-    by-test false q e s = absurd (eqb-false _ _ q (ap (λ r. r .number) e))
-
--- DEMAND 3. "Give the inputs of any accepted sheet whatever fractions within their ends" ..
+-- DEMAND 3: of every schedule and lent table whose evaluation is accepted, and all inputs within their ends.
 pub demand-3 : Demand-3
 demand-3 c table e x within =
-    let w = evaluation-went c table e in
-    subst (λ rows. Demand3 c rows (tableAfter rows table) x) (sym (w .1 .1)) (holds c (w .0) x within (w .1 .0) table)
+    let a = accepted-evaluation c table e in
+    subst (λ rows. Demand3 c rows (tableAfter rows table) x) (sym (a .rows)) (holds c (a .pass) x within (a .goes) table (a .room))

@@ -1,7 +1,6 @@
 -- Document 01, "Proved examples" P1 to P13 and the listing of its example sheet, over the definitions that the contracts cite: cases as data, and
 -- one test that the checker evaluates.
 use mathlib.Core.Path.{_≡_, refl}
-use mathlib.Core.Bool.{Bool, true, false}
 use mathlib.Core.List.{List, [], _∷_, _++_, map}
 use Prim.Native.Nat.{ℕ, zero, suc, _-_, _*_}
 use lib.IntN.{ℤ, pos, negℤ}

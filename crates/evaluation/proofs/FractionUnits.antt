@@ -1,22 +1,22 @@
 -- Values in fractions against values in units: 4096 times a form's value is its units, and order and equality pass between the two.
-use mathlib.Core.Path.{_≡_, refl, sym, ap, _∙_, subst}
+use mathlib.Core.Path.{_≡_}
 use mathlib.Core.Logic.{_≢_}
-use mathlib.Core.List.{List, [], _∷_}
-use Prim.Native.Nat.{ℕ, zero, suc}
+use mathlib.Core.List.{[], _∷_}
+use Prim.Native.Nat.{ℕ}
 use native.Mathlib.Omega.{arith}
-use lib.IntN.{ℤ, pos, negsuc}
-use Rattle.integer.specs.Fraction.{Fraction, _≈_, _≤ℚ_, _<ℚ_, _+ℚ_, _*ℚ_, negℚ, _-ℚ_, _/ℚ_, whole, over, reciprocal}
-use Rattle.integer.proofs.Certificate.{certify, hyp, eqn, nat, _⊞_, _⊠_, _≼_, _≋_, _⊢_}
-use Rattle.integer.proofs.Ring.{var, con, _⊕_, _⊖_, _⊗_, neg, _≐_, ring}
-use Rattle.integer.proofs.Fraction.{ringOfFractions, orderedFractions, ≈-refl, ≈-sym, ≈-trans, +ℚ-cong, *ℚ-cong, times-quotient, times-over, times-reciprocal, ≤ℚ-antisym, ≤ℚ-of-not-below, not-below-of-≤ℚ}
-use Rattle.integer.proofs.Bound.{Bound, cancel-le, le-cong, le-refl, whole-le}
+use lib.IntN.{ℤ, pos}
+use Rattle.integer.specs.Fraction.{Fraction, _≈_, _≤ℚ_, _*ℚ_, whole}
+use Rattle.integer.proofs.Certificate.{certify, hyp, _⊠_, _≼_, _⊢_}
+use Rattle.integer.proofs.Ring.{con, _⊗_}
+use Rattle.integer.proofs.Fraction.{ringOfFractions, orderedFractions, ≈-refl, ≈-sym, ≈-trans, +ℚ-cong, *ℚ-cong, times-quotient, times-over, ≤ℚ-antisym, not-below-of-≤ℚ}
+use Rattle.integer.proofs.Bound.{cancel-le, le-cong, le-refl, whole-le}
 use Rattle.integer.proofs.Order.{pos-≤ℤ}
 use Rattle.integer.proofs.Sum.{weightedSum-is-dot}
 use Rattle.affine.specs.declared.Row.{Row}
 use Rattle.affine.specs.Limits.{unit}
 use Rattle.affine.specs.Form.{formValue}
 use Rattle.affine.proofs.Form.{units}
-use Rattle.evaluation.specs.Values.{inUnits, Between, Within}
+use Rattle.evaluation.specs.Values.{inUnits, Within}
 
 -- 4096 times a fraction
 abbrev pub scaled : Fraction → Fraction

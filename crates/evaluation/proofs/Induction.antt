@@ -1,18 +1,18 @@
 -- The induction over rows behind demand 3, over any ordered ring and in units: if each row encloses its exact value wherever the rows before it
 -- equal theirs, then the found values lie from -1 to 1, all rows equal their exact values there, and only there.
-use mathlib.Core.Path.{_≡_, refl, sym, ap, _∙_, subst}
+use mathlib.Core.Path.{_≡_, refl, sym, _∙_, subst}
 use mathlib.Core.Logic.{_≢_, _⊎_, inl, inr}
 use mathlib.Core.Bool.{Bool, true, false}
-use mathlib.Core.List.{List, [], _∷_}
-use Prim.Native.Nat.{ℕ, zero, suc, _+_, _≤_, _<_}
+use mathlib.Core.List.{[], _∷_}
+use Prim.Native.Nat.{ℕ, zero, suc, _≤_, _<_}
 use native.Mathlib.Decide.{ℕ-discrete}
 use native.Mathlib.Nat.{eq-or-lt-of-le, le-of-suc-le-suc, not-suc-le-zero}
 use native.Mathlib.Omega.{arith}
 use borrow.Author.Tests.{ltb-true, ltb-false}
 use lib.Dec.{ltb}
-use lib.IntN.{ℤ, pos, negsuc}
-use Rattle.integer.proofs.Ring.{CommutativeRing, var, con, _⊕_, _⊖_, _⊗_, neg, _≐_, ring}
-use Rattle.integer.proofs.Certificate.{OrderedRing, certify, hyp, eqn, nat, _⊞_, _⊠_, _≼_, _≋_, _⊢_}
+use lib.IntN.{pos, negsuc}
+use Rattle.integer.proofs.Ring.{CommutativeRing, var, con, _⊕_, _⊗_, neg, ring}
+use Rattle.integer.proofs.Certificate.{OrderedRing, certify, hyp, eqn, _⊞_, _≼_, _≋_, _⊢_}
 use Rattle.integer.proofs.Order.{pos-≤ℤ}
 use Rattle.integer.proofs.Bound.{Bound, bound-cong, quotient-within-one, zero-within-one, whole-le, cancel-le, le-cong, le-refl}
 use Rattle.affine.specs.declared.Row.{Row}

@@ -1,18 +1,16 @@
 -- How each row of accepted work, and its exact value beside it, is made from earlier ones: by cases on its line.
 use mathlib.Core.Path.{_≡_, refl, sym, ap, ap₂, _∙_, subst}
-use mathlib.Core.Logic.{_≢_, _⊎_, inl, inr}
-use mathlib.Core.Bool.{Bool, true, false}
+use mathlib.Core.Logic.{_⊎_, inl, inr}
+use mathlib.Core.Bool.{false}
 use mathlib.Core.List.{List, [], _∷_, _++_}
 use Prim.Native.Nat.{ℕ, zero, suc, _+_, _-_, _≤_, _<_}
 use native.Mathlib.Omega.{arith}
-use borrow.Author.Tests.{lt-ltb, le-ltb, eq-eqb, ne-eqb}
-use lib.Dec.{eqb, ltb}
+use borrow.Author.Tests.{lt-ltb, le-ltb}
 use lib.IntN.{ℤ, pos}
 use lib.ListN.{length, getD}
 use Rattle.integer.specs.Fraction.{Fraction, _+ℚ_, _-ℚ_, _*ℚ_, whole, reciprocal as reciprocalOf}
 use Rattle.affine.specs.declared.Row.{Row}
 use Rattle.affine.specs.declared.Status.the-variants.{Accepted}
-use Rattle.affine.specs.Lists.{pick}
 use Rattle.affine.specs.Steps.{constantRow, inputRow, addRows, subtractRows, checked}
 use Rattle.affine.specs.Product.{product, productRow}
 use Rattle.affine.specs.Reciprocal.{reciprocal, reciprocalRow, zeroInRange, distance}
@@ -24,7 +22,7 @@ use Rattle.sheet.proofs.Passing.{Natural, StepPassed}
 use Rattle.sheet.proofs.Passed.{Passed}
 use Rattle.evaluation.specs.Work.{rowCount, namedRow, binaryAnswer, stepAnswer, rowAnswer}
 use Rattle.evaluation.specs.Values.{inUnits, namedValue, exactStep, exactRow, exactValues, exactValue}
-use Rattle.evaluation.proofs.Sequence.{grown, grown-suc, length-grown, getD-grown}
+use Rattle.evaluation.proofs.Sequence.{grown, length-grown, getD-grown}
 use Rattle.evaluation.proofs.Induction.{lt-or-ge}
 use Rattle.evaluation.proofs.WorkLaws.{nextRow, rowsUpTo, Went, checked-accepted, Inverted, reciprocal-accepted}
 

@@ -1,22 +1,22 @@
 -- Each row of accepted work encloses its exact value: by its line, the enclosure law of its operation.
-use mathlib.Core.Path.{_≡_, refl, sym, ap, _∙_, subst}
-use mathlib.Core.Logic.{_≢_, _⊎_, inl, inr}
-use mathlib.Core.List.{List, [], _∷_}
-use Prim.Native.Nat.{ℕ, zero, suc, _+_, _≤_, _<_}
+use mathlib.Core.Path.{_≡_, sym, subst}
+use mathlib.Core.Logic.{_≢_}
+use mathlib.Core.List.{[], _∷_}
+use Prim.Native.Nat.{ℕ, _<_}
 use native.Mathlib.Omega.{arith}
-use lib.IntN.{ℤ, pos, negsuc, natAbs, _-ℤ_}
-use Rattle.integer.specs.Fraction.{Fraction, _≈_, _≤ℚ_, _+ℚ_, _-ℚ_, _*ℚ_, negℚ, whole, reciprocal}
-use Rattle.integer.proofs.Certificate.{certify, hyp, eqn, nat, _⊞_, _⊠_, _≼_, _≋_, _⊢_}
-use Rattle.integer.proofs.Ring.{var, con, _⊕_, _⊖_, _⊗_, neg, _≐_, ring}
+use lib.IntN.{pos, negsuc}
+use Rattle.integer.specs.Fraction.{Fraction, _≈_, _≤ℚ_, _-ℚ_, _*ℚ_, negℚ, whole, reciprocal}
+use Rattle.integer.proofs.Certificate.{certify, hyp, eqn, _⊞_, _≼_, _≋_, _⊢_}
+use Rattle.integer.proofs.Ring.{con, _⊕_, _⊖_, _⊗_, neg, _≐_, ring}
 use Rattle.integer.proofs.Order.{pos-≤ℤ}
 use Rattle.integer.proofs.Fraction.{ringOfFractions, orderedFractions, ≈-refl, ≈-sym, ≈-trans, +ℚ-cong, *ℚ-cong, ≤ℚ-of-not-below, times-reciprocal, ≈-zero-of-upper}
 use Rattle.integer.proofs.Bound.{Bound, le-cong, whole-le, whole-nonneg}
 use Rattle.affine.specs.declared.Row.{Row}
 use Rattle.affine.specs.Limits.{symbols, unit, unitSquared}
 use Rattle.affine.specs.Lists.{at}
-use Rattle.affine.specs.Steps.{constantRow, inputRow, addRows, subtractRows}
-use Rattle.affine.specs.Product.{productRow, productOwn}
-use Rattle.affine.specs.Reciprocal.{zeroInRange, distance, reciprocalRow, reciprocalOwn}
+use Rattle.affine.specs.Steps.{inputRow}
+use Rattle.affine.specs.Product.{productRow}
+use Rattle.affine.specs.Reciprocal.{distance, reciprocalRow}
 use Rattle.affine.proofs.Form.{Shaped, UsesOnly, units}
 use Rattle.affine.proofs.FormBounds.{Unit-symbols}
 use Rattle.affine.proofs.StepLaws.{constant-exact, add-exact, subtract-exact, input-encloses}
@@ -31,7 +31,7 @@ use Rattle.evaluation.specs.Demand3.{InputsWithin}
 use Rattle.evaluation.proofs.WorkLaws.{Went}
 use Rattle.evaluation.proofs.Made.{Made, is-input, is-constant, is-sum, is-difference, is-product, is-reciprocal, row, value, made}
 use Rattle.evaluation.proofs.RowFacts.{fact, own, own-is, count-small, squares-few}
-use Rattle.evaluation.proofs.FractionUnits.{scaled, scaled-inUnits, scaled-cong, scaled-above, scaled-below}
+use Rattle.evaluation.proofs.FractionUnits.{scaled, scaled-inUnits, scaled-above, scaled-below}
 
 pub negℚ-cong : {u v : Fraction} → u ≈ v → negℚ u ≈ negℚ v
 negℚ-cong {u} {v} e = certify orderedFractions 2 (λ u v. (u ≋ v) ∷ [] ⊢ (neg u ≋ neg v)) 0 (eqn (con (negsuc 0)) 0) tt u v e

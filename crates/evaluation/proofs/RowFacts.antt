@@ -1,8 +1,8 @@
 -- What holds of every row of accepted work: its shape, its pairs, the symbols on which it depends, and its own coefficient.
-use mathlib.Core.Path.{_≡_, refl, sym, ap, ap₂, _∙_, subst}
+use mathlib.Core.Path.{_≡_, refl, sym, ap, _∙_, subst}
 use mathlib.Core.Logic.{_≢_, _⊎_, inl, inr}
 use mathlib.Core.Bool.{true}
-use Prim.Native.Nat.{ℕ, zero, suc, _+_, _-_, _≤_, _<_}
+use Prim.Native.Nat.{ℕ, _≤_, _<_}
 use native.Mathlib.Nat.{eq-or-lt-of-le}
 use native.Mathlib.Omega.{arith}
 use lib.IntN.{ℤ, pos, natAbs, _+ℤ_, _-ℤ_}
@@ -14,9 +14,8 @@ use Rattle.integer.proofs.Absolute.{natAbs-of-nonneg}
 use Rattle.affine.specs.declared.Row.{Row}
 use Rattle.affine.specs.Limits.{symbols, paired}
 use Rattle.affine.specs.Lists.{at}
-use Rattle.affine.specs.Steps.{constantRow, inputRow, addRows, subtractRows, inputCentre}
-use Rattle.affine.specs.Product.{productOwn, productRow}
-use Rattle.affine.specs.Reciprocal.{reciprocalRow, reciprocalOwn, distance}
+use Rattle.affine.specs.Steps.{constantRow, addRows, subtractRows}
+use Rattle.affine.specs.Reciprocal.{distance}
 use Rattle.affine.proofs.Form.{Shaped, UsesOnly}
 use Rattle.affine.proofs.Support.{FreeOf, NoPairOf, constant-free, input-free, zip-free, product-free, reciprocal-free}
 use Rattle.affine.proofs.WellFormed.{constant-shaped, input-shaped, zip-shaped, product-shaped, reciprocal-shaped, constant-uses, input-uses, zip-uses, product-uses, reciprocal-uses, input-own, input-own-nonneg, product-own, reciprocal-own, free-no-pair, input-no-pair, product-no-pair, reciprocal-no-pair}
@@ -27,7 +26,7 @@ use Rattle.evaluation.specs.Work.{rowCount}
 use Rattle.evaluation.proofs.Sequence.{complete}
 use Rattle.evaluation.proofs.Induction.{lt-or-ge}
 use Rattle.evaluation.proofs.WorkLaws.{Went}
-use Rattle.evaluation.proofs.Made.{Made, is-input, is-constant, is-sum, is-difference, is-product, is-reciprocal, row, value, made}
+use Rattle.evaluation.proofs.Made.{Made, is-input, is-constant, is-sum, is-difference, is-product, is-reciprocal, row, made}
 
 -- how sums and differences are made, number by number
 abbrev plus : ℤ → ℤ → ℤ

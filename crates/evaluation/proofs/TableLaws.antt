@@ -1,18 +1,17 @@
 -- What a table holds after rows were put into it: each row's part is that row's numbers, and they are the row.
-use mathlib.Core.Path.{_≡_, refl, sym, ap, ap₂, _∙_, subst}
+use mathlib.Core.Path.{_≡_, sym, ap, ap₂, _∙_}
 use mathlib.Core.List.{List, [], _∷_, _++_, append-assoc}
-use Prim.Native.Nat.{ℕ, zero, suc, _+_, _*_, _-_, _≤_, _<_}
-use native.Mathlib.Nat.{le-of-suc-le-suc, not-suc-le-zero, mul-suc, mul-zero, add-comm}
+use Prim.Native.Nat.{ℕ, zero, suc, _+_, _*_, _<_}
+use native.Mathlib.Nat.{le-of-suc-le-suc, not-suc-le-zero}
 use native.Mathlib.Omega.{arith}
-use lib.IntN.{ℤ, pos}
+use lib.IntN.{ℤ}
 use lib.ListN.{length, getD, take, drop, length-append}
 use lib.Seq.{take-at, drop-at, take-all, drop-drop}
 use Rattle.affine.specs.declared.Row.{Row}
 use Rattle.affine.specs.Limits.{symbols, pairs}
 use Rattle.affine.specs.Row.{numbers}
-use Rattle.affine.specs.Steps.{constantRow}
 use Rattle.affine.proofs.Form.{Shaped}
-use Rattle.evaluation.specs.Table.{rowPart, rowOfNumbers, rowAt, rowWidth, allNumbers, tableAfter}
+use Rattle.evaluation.specs.Table.{rowPart, rowOfNumbers, rowWidth, allNumbers}
 
 pub length-numbers : (r : Row) → Shaped r → length (numbers r) ≡ rowWidth
 length-numbers r s = ap suc (length-append (r .linear) (r .pair) ∙ ap₂ (λ a b. a + b) (s .linear) (s .pair))

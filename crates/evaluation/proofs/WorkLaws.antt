@@ -1,14 +1,14 @@
 -- What accepted work is made of: as many rows as were asked for, each accepted, and each made from the rows before it as its line says.
-use mathlib.Core.Path.{_≡_, refl, sym, ap, ap₂, _∙_, subst}
-use mathlib.Core.Logic.{_≢_, _⊎_, inl, inr}
+use mathlib.Core.Path.{_≡_, refl, sym, ap, _∙_, subst}
+use mathlib.Core.Logic.{_⊎_, inl, inr}
 use mathlib.Core.Bool.{Bool, true, false}
 use mathlib.Core.List.{List, [], _∷_, _++_}
-use Prim.Native.Nat.{ℕ, zero, suc, _+_, _-_, _≤_, _<_}
+use Prim.Native.Nat.{ℕ, zero, suc, _<_}
 use native.Mathlib.Nat.{not-suc-le-zero, eq-or-lt-of-le, le-of-suc-le-suc}
 use native.Mathlib.Omega.{arith}
-use borrow.Author.Tests.{eqb-true, eqb-false, eq-eqb}
-use lib.Dec.{eqb, ltb}
-use lib.ListN.{length, getD}
+use borrow.Author.Tests.{eqb-true, eqb-false}
+use lib.Dec.{eqb}
+use lib.ListN.{length}
 use Rattle.affine.specs.declared.Row.{Row}
 use Rattle.affine.specs.declared.Status.{Status}
 use Rattle.affine.specs.declared.Status.the-variants.{Accepted, SpanPassed, ZeroInRange}
@@ -20,7 +20,7 @@ use Rattle.affine.specs.Reciprocal.{zeroInRange, distance, candidate, reciproca
 use Rattle.sheet.specs.declared.Schedule.{Schedule}
 use Rattle.sheet.specs.Causes.{refusal, accepted}
 use Rattle.evaluation.specs.Work.{Worked, onward, stopped, withAnswer, worked, rowAnswer}
-use Rattle.evaluation.proofs.Sequence.{grown, grown-suc, length-grown, getD-grown}
+use Rattle.evaluation.proofs.Sequence.{grown, grown-suc}
 
 -- the row that the work makes of the rows before it
 abbrev pub nextRow : Schedule → List Row → Row

@@ -19,7 +19,7 @@ use Rattle.affine.proofs.Lists.{length-tabulate, getD-tabulate}
 use Rattle.sheet.specs.declared.Schedule.{Schedule}
 use Rattle.sheet.specs.Causes.{refusal, accepted}
 use Rattle.evaluation.specs.Table.{rowWidth, rowOfNumbers, rowAt, allNumbers, tableAfter, rowsIn, RowsWithin}
-use Rattle.evaluation.specs.Work.{Worked, onward, stopped, withAnswer, worked, rowAnswer}
+use Rattle.evaluation.specs.Work.{onward, stopped, withAnswer, worked, rowAnswer}
 use Rattle.evaluation.proofs.Sequence.{length-grown, getD-grown}
 use Rattle.evaluation.proofs.TableLaws.{length-numbers, rowOfNumbers-numbers, rowPart-numbers}
 use Rattle.evaluation.proofs.WorkLaws.{nextRow, rowsUpTo, went}

@@ -1,8 +1,8 @@
 -- Asking about the rows of a lent table: a range, a comparison, a part of the table. "Asking about rows: 9, 8, 6, the lower row first"
-use mathlib.Core.Bool.{Bool, true, false}
+use mathlib.Core.Bool.{Bool, false}
 use mathlib.Core.List.{List, []}
-use Prim.Native.Nat.{ℕ, zero, suc, _+_, _-_, _*_, min, max}
-use lib.Dec.{eqb, leb, ltb}
+use Prim.Native.Nat.{ℕ, _-_, _*_, min, max}
+use lib.Dec.{eqb, leb}
 use lib.IntN.{ℤ, pos}
 use lib.ListN.{length}
 use Rattle.affine.specs.declared.Row.{Row}

@@ -5,7 +5,6 @@ use mathlib.Core.Bool.{true}
 use mathlib.Core.List.{List}
 use Prim.Native.Nat.{ℕ, suc, _-_, _<_}
 use lib.IntN.{ℤ, pos}
-use lib.ListN.{length}
 use Rattle.integer.specs.Fraction.{Fraction, _≈_, whole}
 use Rattle.affine.specs.declared.Row.{Row}
 use Rattle.affine.specs.Form.{formValue}
@@ -36,7 +35,9 @@ pub record Demand3 (c : Schedule) (rows : List Row) (left : List ℤ) (x : ℕ �
   pub found-in-unit : (i : ℕ) → i < rowCount c → ownOf rows i ≢ pos 0 → FromMinusOneToOne (foundValue c x rows i)
   -- "and no exact divisor is zero": "the exact value of the row that a reciprocal names"
   pub divisor-nonzero : (j : ℕ) → j < natural (c .steps) → natural (stepAt c j .code) ≡ 5 → ¬ (exactValue c x (natural (stepAt c j .first) - 1) ≈ whole (pos 0))
-  -- "each exact value lies in its row's range, the one that document 01 fixes and our calls answer"
+  -- the table left answers for every row ..
+  pub range-answered : (i : ℕ) → i < rowCount c → rangeOf left (rowCount c) (suc i) .refusal ≡ accepted
+  -- .. and "each exact value lies in its row's range, the one that document 01 fixes and our calls answer"
   pub in-range : (i : ℕ) → i < rowCount c → (lent : List ℤ) → StillHolds left lent i → (count : ℕ) → rangeOf lent count (suc i) .refusal ≡ accepted
       → Within (rangeOf lent count (suc i) .low) (exactValue c x i) (rangeOf lent count (suc i) .high)
   -- "and rows of one sheet with identical numbers, those we call the same, have equal exact values"

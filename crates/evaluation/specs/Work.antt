@@ -1,6 +1,5 @@
 -- Evaluation without a table: the rows of a schedule one after another, each worked from those before it, up to the last or to a refusal; and
 -- what the lent table then holds.
-use mathlib.Core.Bool.{Bool, true, false}
 use mathlib.Core.List.{List, [], _∷_, _++_}
 use Prim.Native.Nat.{ℕ, zero, suc, _+_, _-_, _*_}
 use lib.Dec.{eqb, leb, ltb}

@@ -1,6 +1,6 @@
 -- Dot products of whole-number coefficients with values of any commutative ring, and sums of absolute values: both follow the addition,
 -- scaling, appending and lengthening of lists, by induction; and |dot| is at most the sum of absolutes where the values lie from -1 to 1.
-use mathlib.Core.Path.{_≡_, refl, sym, _∙_, ap, subst}
+use mathlib.Core.Path.{_≡_, sym, _∙_, subst}
 use mathlib.Core.List.{List, [], _∷_, _++_, map}
 use mathlib.Core.Logic.{_≢_, _⊎_, inl, inr}
 use Prim.Native.Nat.{ℕ, zero, suc, _+_, _*_, _≤_, _<_}

@@ -12,8 +12,7 @@ use lib.Dec.{eqb, ltb}
 use lib.ListN.{length, drop, length-append, length-drop}
 use lib.IntN.{ℤ}
 use Rattle.sheet.specs.Limits.{maxBytes}
-use Rattle.sheet.specs.Causes.{refusal, accepted}
-use Rattle.sheet.specs.Text.{line}
+use Rattle.sheet.specs.Causes.{refusal}
 use Rattle.sheet.specs.Lines.{natural, zeroSchedule, lineOf, lineAt, linesLeft, lineText, names, width, numbers}
 use Rattle.sheet.specs.Tests.{fault}
 use Rattle.sheet.specs.Reading.{padded, fieldsAt, starts, partRead, readAs, readLine, readLines, readSheet, readOf}

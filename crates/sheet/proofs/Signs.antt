@@ -1,7 +1,7 @@
 -- What casts, 0 - v, -1 - v and the test v < 0 give of a signed number: each by the number's two constructors.
 use mathlib.Core.Path.{_≡_, refl, ap, _∙_}
 use mathlib.Core.Bool.{true, false}
-use Prim.Native.Nat.{ℕ, zero, suc, _+_, _-_, _<_, _^_}
+use Prim.Native.Nat.{ℕ, zero, suc, _+_, _<_, _^_}
 use native.Mathlib.Omega.{arith}
 use lib.IntN.{ℤ, pos, negsuc, negℤ, _-ℤ_, natAbs, +ℤ-idl}
 use lib.Signed.{ltZ, mag, nonNeg}

@@ -1,7 +1,6 @@
 -- `read` tests the length, then reads the sheet.
 use borrow.Author.Needs.{needs}
 use mathlib.Core.Path.{ap, _∙_}
-use Prim.Native.Nat.{_-_}
 use borrow.Author.Tests.{lt-ltb, le-ltb}
 use lib.ListN.{length}
 use Rattle.sheet.specs.Limits.{maxBytes}

@@ -1,6 +1,5 @@
 -- `end_byte` is byte 10 behind the last field, else a space.
 use borrow.Author.Needs.{needs}
-use Prim.Native.Nat.{_-_}
 use Rattle.sheet.proofs.FieldLine.{end-byte-last, end-byte-inner}
 use Rattle.sheet.proofs.fields.end_byte.Statement.{statement}
 use Rattle.sheet.proofs.fields.end_byte.Tie as tie

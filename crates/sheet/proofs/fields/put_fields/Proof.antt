@@ -8,7 +8,6 @@ use lib.IntN.{pos}
 use mir.Syntax.{w64}
 use mir.Val.{toZ, ofZ}
 use Rattle.sheet.specs.Wrote.{Wrote}
-use Rattle.sheet.specs.Text.{line}
 use lib.Seq.{length-take-le}
 use Rattle.sheet.proofs.Written.{wrote-then}
 use Rattle.sheet.proofs.FieldLine.{front, front-next, front-room, front-all}

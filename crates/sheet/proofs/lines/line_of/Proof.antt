@@ -1,6 +1,5 @@
 -- `line_of` makes the tests of `lineOf` in their order.
 use borrow.Author.Needs.{needs}
-use Prim.Native.Nat.{_-_}
 use borrow.Author.Tests.{lt-ltb, le-ltb, le-leb, lt-leb, eq-eqb, ne-eqb}
 use Rattle.sheet.specs.Lines.{lineOf}
 use Rattle.sheet.proofs.lines.line_of.Statement.{statement}

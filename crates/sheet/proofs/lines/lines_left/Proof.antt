@@ -2,7 +2,6 @@
 use borrow.Author.Needs.{needs}
 use native.Mathlib.Omega.{arith}
 use mathlib.Core.Path.{_≡_, ap, _∙_}
-use Prim.Native.Nat.{_-_}
 use mir.Syntax.{w64}
 use mir.Val.{toZ, ofZ}
 use Rattle.sheet.specs.Lines.{natural}

@@ -1,6 +1,5 @@
 -- `natural` of a count: the cast of one that is not below 0.
 use mathlib.Core.Path.{sym, ap, _∙_}
-use Prim.Native.Nat.{_-_}
 use Rattle.sheet.proofs.Signs.{below-zero, from-zero, cast-from-zero}
 use Rattle.sheet.specs.Lines.{natural}
 use Rattle.sheet.proofs.lines.natural.Statement.{statement}

@@ -1,7 +1,6 @@
 -- `numbers` makes the list of each kind of line.
 use borrow.Author.Needs.{needs}
 use mathlib.Core.Path.{_≡_, ap}
-use Prim.Native.Nat.{_-_}
 use mir.Syntax.{w64}
 use mir.Val.{toZ, ofZ}
 use Rattle.sheet.specs.Lines.{endNumbers, stepNumbers}

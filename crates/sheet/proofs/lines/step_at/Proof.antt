@@ -2,7 +2,6 @@
 use borrow.Author.Needs.{needs}
 use native.Mathlib.Omega.{arith}
 use mathlib.Core.Path.{_≡_, sym, _∙_}
-use Prim.Native.Nat.{_-_}
 use lib.ListN.{length, List·getD-eq-default, length-map}
 use Rattle.sheet.specs.Limits.{maxSteps}
 use Rattle.sheet.specs.Lines.{zeroStep}

@@ -1,6 +1,5 @@
 -- `store` puts the numbers where the kind of line has its place.
 use borrow.Author.Needs.{needs}
-use Prim.Native.Nat.{_-_}
 use Rattle.sheet.specs.Lines as Spec
 use Rattle.sheet.proofs.lines.store.Statement.{statement}
 use Rattle.sheet.proofs.lines.store.Tie as tie

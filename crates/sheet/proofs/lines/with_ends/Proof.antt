@@ -3,7 +3,6 @@ use borrow.Author.Needs.{needs}
 use native.Mathlib.Omega.{arith}
 use mathlib.Core.Path.{_≡_, sym, ap, _∙_}
 use mathlib.Core.List.{List}
-use Prim.Native.Nat.{_-_}
 use lib.ListN.{length, length-map}
 use lib.Seq.{set-out}
 use Rattle.sheet.specs.Limits.{maxInputs}

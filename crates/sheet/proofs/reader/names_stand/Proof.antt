@@ -1,7 +1,5 @@
 -- `names_stand` compares the names of the kind of line.
 use borrow.Author.Needs.{needs}
-use Prim.Native.Nat.{_-_}
-use Rattle.sheet.specs.Lines.{names}
 use Rattle.sheet.specs.Reading.{starts}
 use Rattle.sheet.proofs.reader.names_stand.Statement.{statement}
 use Rattle.sheet.proofs.reader.names_stand.Tie as tie

@@ -2,7 +2,6 @@
 use borrow.Author.Needs.{needs}
 use native.Mathlib.Omega.{arith}
 use mathlib.Core.Path.{_≡_, sym, _∙_}
-use Prim.Native.Nat.{_-_}
 use Rattle.sheet.specs.Lines.{width, names}
 use Rattle.sheet.proofs.LineRead.{names-read, names-broken, values-are, starts-within}
 use Rattle.sheet.proofs.reader.read_as.Statement.{statement}

@@ -2,7 +2,7 @@
 use borrow.Author.Needs.{needs}
 use native.Mathlib.Omega.{arith}
 use mathlib.Core.Path.{_≡_, sym, ap, _∙_}
-use Prim.Native.Nat.{_≤_, _-_}
+use Prim.Native.Nat.{_≤_}
 use Rattle.sheet.specs.Lines.{zeroSchedule, linesLeft}
 use Rattle.sheet.specs.declared.reader.Part.{Part}
 use Rattle.sheet.proofs.LineRead.{lines-read, firstPart, secondPart, sheet-first, sheet-second, sheet-ends, sheet-goes-on}

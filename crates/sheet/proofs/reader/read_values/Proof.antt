@@ -1,7 +1,7 @@
 -- `read_values` tests the layout, then the meaning.
 use borrow.Author.Needs.{needs}
 use mathlib.Core.Path.{_≡_, sym, ap, _∙_}
-use Prim.Native.Nat.{ℕ, _-_}
+use Prim.Native.Nat.{ℕ}
 use Rattle.sheet.specs.Tests.{fault}
 use Rattle.sheet.specs.Lines.{width, store}
 use Rattle.sheet.specs.Reading.{fieldsAt, valuesRead, partRead, partRefused}

@@ -1,6 +1,5 @@
 -- `refused` puts zeros beside the refusal.
 use borrow.Author.Needs.{needs}
-use Prim.Native.Nat.{_-_}
 use Rattle.sheet.proofs.reader.refused.Statement.{statement}
 use Rattle.sheet.proofs.reader.refused.Tie as tie
 

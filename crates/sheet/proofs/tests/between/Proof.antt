@@ -1,8 +1,6 @@
 -- `between` makes the two tests in their order.
-use Prim.Native.Nat.{_-_}
 use mir.Syntax.{w64}
 use mir.ValLaws.{toZ-ofZ}
-use Rattle.sheet.specs.Tests.{between}
 use Rattle.sheet.proofs.tests.between.Statement.{statement}
 use Rattle.sheet.proofs.tests.between.Tie as tie
 

@@ -1,7 +1,6 @@
 -- `ends_pass` makes the three tests in their order.
 use borrow.Author.Needs.{needs}
 use mathlib.Core.Path.{_≡_, sym, _∙_}
-use Prim.Native.Nat.{_-_}
 use mir.Syntax.{w64}
 use mir.Val.{toZ, ofZ}
 use Rattle.sheet.specs.Tests.{withinLimit, endsPass}

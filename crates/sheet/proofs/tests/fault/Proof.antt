@@ -1,7 +1,7 @@
 -- `fault` asks the test of the kind of line.
 use borrow.Author.Needs.{needs}
 use mathlib.Core.Path.{_≡_, sym, _∙_}
-use Prim.Native.Nat.{ℕ, _-_}
+use Prim.Native.Nat.{ℕ}
 use mir.Syntax.{w64}
 use mir.Val.{toZ, ofZ}
 use Rattle.sheet.specs.Lines.{item}

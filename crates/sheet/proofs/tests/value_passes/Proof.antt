@@ -1,6 +1,5 @@
 -- `value_passes` asks the test that the field takes.
 use borrow.Author.Needs.{needs}
-use Prim.Native.Nat.{_-_}
 use mir.Syntax.{w64}
 use mir.ValLaws.{toZ-ofZ}
 use Rattle.sheet.specs.Tests.{between}

@@ -1,6 +1,5 @@
 -- `within_limit` asks `between` for the limits.
 use borrow.Author.Needs.{needs}
-use Prim.Native.Nat.{_-_}
 use mir.Syntax.{w64}
 use mir.ValLaws.{toZ-ofZ}
 use Rattle.sheet.specs.Tests.{between}

@@ -1,7 +1,6 @@
 -- `fault_at` tests the numbers of the line.
 use borrow.Author.Needs.{needs}
 use mathlib.Core.Path.{_≡_, ap, _∙_}
-use Prim.Native.Nat.{_-_}
 use mir.Syntax.{w64}
 use mir.Val.{toZ, ofZ}
 use Rattle.sheet.specs.Tests.{fault}

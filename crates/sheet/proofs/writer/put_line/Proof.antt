@@ -2,7 +2,6 @@
 use borrow.Author.Needs.{needs}
 use native.Mathlib.Omega.{arith}
 use mathlib.Core.Path.{_≡_, ap}
-use Prim.Native.Nat.{_-_}
 use lib.ListN.{length, take}
 use Rattle.sheet.specs.Text.{line}
 use Rattle.sheet.specs.Lines.{lineText, numbers}
