@@ -16,8 +16,7 @@ use Rattle.affine.proofs.Lists.{pick-elim}
 use Rattle.sheet.specs.declared.Refusal.{Refusal}
 use Rattle.sheet.specs.Causes.{refusal, accepted}
 use Rattle.evaluation.specs.Table.{rowWidth, rowAt}
-use Rattle.evaluation.specs.Work.{tableTooShort}
-use Rattle.evaluation.specs.Asking.{noSuchRow, isRow, lentRow, tableRefusal, orElse, rowRefusal, rowsRefusal}
+use Rattle.evaluation.specs.Asking.{isRow, lentRow, tableRefusal, orElse, rowRefusal, rowsRefusal}
 
 -- ---- tests one after another
 both-true : (s t : Bool) → pick s t false ≡ true → (s ≡ true) × (t ≡ true)
@@ -55,18 +54,14 @@ record TableAccepted (table : List ℤ) (count : ℕ) (known : Bool) : Type 0 wh
   pub room : rowWidth * count ≤ length table
 
 table-accepted : (table : List ℤ) (count : ℕ) (known : Bool) → tableRefusal table count known .number ≡ 0 → TableAccepted table count known
-table-accepted table count known =
-    pick-elim Accepts (pick known (leb count symbols) false) inner noSuchRow
-    (λ e. pick-elim Accepts (leb (rowWidth * count) (length table)) accepted tableTooShort
-    (λ q h. record { all-known = both-true known (leb count symbols) e .0; room = leb-true _ _ q })
-    (λ q h. absurd (omega arith)))
-    (λ e h. absurd (omega arith))
+table-accepted table count known h = by-tests (pick known (leb count symbols) false) (leb (rowWidth * count) (length table)) refl refl
   where
-    inner : Refusal
-    inner = pick (leb (rowWidth * count) (length table)) accepted tableTooShort
-
-    Accepts : Refusal → Type 0
-    Accepts r = r .number ≡ 0 → TableAccepted table count known
+    by-tests : (named roomy : Bool) → pick known (leb count symbols) false ≡ named → leb (rowWidth * count) (length table) ≡ roomy
+        → TableAccepted table count known
+    by-tests true true e q = record { all-known = both-true known (leb count symbols) e .0; room = leb-true _ _ q }
+    by-tests true false e q = absurd (let z = simp (e, q) at h in omega arith)
+    by-tests false true e q = absurd (let z = simp (e, q) at h in omega arith)
+    by-tests false false e q = absurd (let z = simp (e, q) at h in omega arith)
 
 -- ---- rows that a table holds
 pub record Held (table : List ℤ) (row : ℕ) : Type 0 where
