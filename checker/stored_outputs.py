@@ -1,6 +1,6 @@
 """Checks that the files stored in program crates are those that the checker makes now.
 
-    python3 checker/stored_outputs.py crates/sheet_cases crates/row_examples crates/library_calls
+    python3 checker/stored_outputs.py crates/sheet_cases crates/row_examples ..
 
 The last part of a folder's path names the program. A file that is missing or differs fails; the
 last line is `N passed, M failed`.
@@ -9,6 +9,7 @@ last line is `N passed, M failed`.
 import pathlib
 import sys
 
+import bench_evaluate
 import library_calls
 import row_cases
 import sheet_cases
@@ -18,6 +19,7 @@ MAKERS = {
     "sheet_cases": sheet_cases.files,
     "row_examples": row_cases.files,
     "library_calls": library_calls.files,
+    "bench_evaluate": bench_evaluate.files,
 }
 
 

@@ -1,0 +1,318 @@
+// Makes the library calls that its data file lists, on hostile arguments too, and prints what each answers and leaves.
+//
+// The file `calls` has fields of 17 bytes: 16 hexadecimal digits, and a byte that means nothing. A call is a code and its arguments, each one
+// field. `checker/library_calls.py` says what each code is and what it prints; it makes the file and the same lines.
+use libc::STDOUT_FILENO;
+use sheet::End;
+use sheet::MAX_INPUTS;
+use sheet::MAX_STEPS;
+use sheet::Refusal;
+use sheet::Schedule;
+use sheet::Step;
+ghost use Prim.Native.Nat.{_≤_};
+ghost use lib.ListN.{length};
+
+// The most numbers and bytes that are lent.
+const TABLE_ROOM: usize = 1612;
+
+const WRITE_ROOM: usize = 700;
+
+const FIELD: usize = 17;
+
+const DIGITS: usize = 16;
+// 2 to the 63rd: an unsigned number from it on stands for a negative one.
+const FIRST_NEGATIVE: u64 = 9223372036854775808;
+
+// What is kept between calls, beside the table: how much of the table is lent, and the schedule.
+struct State {
+    length: usize,
+    schedule: Schedule,
+    done: bool,
+}
+
+// ---- the data file
+
+fn digit(b: u8) -> u64 {
+    match b {
+        b'0'..=b'9' => (b - b'0') as u64,
+        b'a'..=b'f' => (b - b'a') as u64 + 10,
+        _ => 0,
+    }
+}
+
+fn bits(field: [u8; FIELD]) -> u64 {
+    let mut value: u64 = 0;
+    for i in 0..DIGITS {
+        value = (value << 4) | digit(field[i]);
+    }
+    value
+}
+
+// The next field, as an unsigned number; 0 where the file has ended.
+fn next(fd: i32) -> u64 {
+    let mut field = [0u8; FIELD];
+    io::read_full(fd, &mut field);
+    bits(field)
+}
+
+// The next field, as a signed number.
+fn next_signed(fd: i32) -> i64 {
+    let n = next(fd);
+    if n < FIRST_NEGATIVE {
+        n as i64
+    } else {
+        -1 - (u64::MAX - n) as i64
+    }
+}
+
+fn next_size(fd: i32) -> usize {
+    next(fd) as usize
+}
+
+fn next_at_most(fd: i32, most: usize) -> usize
+    ensures { λ r. ⌜ r ≤ most ⌝ }
+{
+    let n = next_size(fd);
+    if n <= most { n } else { most }
+}
+
+fn next_ends(fd: i32) -> [End; MAX_INPUTS] {
+    let mut ends = [End { low: 0, high: 0 }; MAX_INPUTS];
+    for i in 0..MAX_INPUTS {
+        let low = next_signed(fd);
+        let high = next_signed(fd);
+        ends[i] = End { low, high };
+    }
+    ends
+}
+
+fn next_step(fd: i32) -> Step {
+    let code = next_signed(fd);
+    let first = next_signed(fd);
+    let second = next_signed(fd);
+    let value = next_signed(fd);
+    Step {
+        code,
+        first,
+        second,
+        value,
+    }
+}
+
+fn next_steps(fd: i32) -> [Step; MAX_STEPS] {
+    let mut steps = [Step {
+        code: 0,
+        first: 0,
+        second: 0,
+        value: 0,
+    }; MAX_STEPS];
+    for j in 0..MAX_STEPS {
+        steps[j] = next_step(fd);
+    }
+    steps
+}
+
+fn next_schedule(fd: i32) -> Schedule {
+    let inputs = next_signed(fd);
+    let squares = next_signed(fd);
+    let steps = next_signed(fd);
+    let ends = next_ends(fd);
+    let step = next_steps(fd);
+    Schedule {
+        inputs,
+        squares,
+        steps,
+        ends,
+        step,
+    }
+}
+
+// ---- printing
+
+fn print_unsigned(n: u64) {
+    io::write_all(STDOUT_FILENO, b" ");
+    io::print_decimal(STDOUT_FILENO, n);
+}
+
+fn print_signed(z: i64) {
+    io::write_all(STDOUT_FILENO, b" ");
+    if z < 0 {
+        io::write_all(STDOUT_FILENO, b"-");
+    }
+    io::print_decimal(STDOUT_FILENO, integer::magnitude::absolute(z));
+}
+
+fn print_line_end() {
+    io::write_all(STDOUT_FILENO, b"\n");
+}
+
+fn print_refusal(refusal: Refusal) {
+    print_unsigned(refusal.number);
+    print_unsigned(refusal.place as u64);
+}
+
+fn print_numbers(numbers: &[i64]) {
+    for i in 0..numbers.len() {
+        let z = numbers[i];
+        print_signed(z);
+    }
+    print_line_end();
+}
+
+// ---- the calls, on the part of the table that is lent
+
+fn fill(table: &mut [i64], value: i64) {
+    for i in 0..table.len() {
+        table[i] = value;
+    }
+}
+
+fn put(fd: i32, table: &mut [i64]) {
+    let place = next_size(fd);
+    let value = next_signed(fd);
+    if place < table.len() {
+        table[place] = value;
+    }
+}
+
+fn evaluate(schedule: Schedule, table: &mut [i64]) {
+    let refusal = evaluation::evaluate(schedule, &mut *table);
+    io::write_all(STDOUT_FILENO, b"evaluate");
+    print_refusal(refusal);
+    print_line_end();
+    io::write_all(STDOUT_FILENO, b"table");
+    print_numbers(&*table);
+}
+
+fn range(fd: i32, table: &[i64]) {
+    let count = next_size(fd);
+    let row = next_size(fd);
+    let answer = evaluation::range(table, count, row);
+    let refusal = answer.refusal;
+    io::write_all(STDOUT_FILENO, b"range");
+    print_refusal(refusal);
+    print_signed(answer.low);
+    print_signed(answer.high);
+    print_line_end();
+}
+
+fn row(fd: i32, table: &[i64]) {
+    let count = next_size(fd);
+    let row = next_size(fd);
+    io::write_all(STDOUT_FILENO, b"row");
+    print_numbers(evaluation::row(table, count, row));
+}
+
+fn same(fd: i32, table: &[i64]) {
+    let count = next_size(fd);
+    let first = next_size(fd);
+    let second = next_size(fd);
+    let answer = evaluation::same(table, count, first, second);
+    let refusal = answer.refusal;
+    io::write_all(STDOUT_FILENO, b"same");
+    print_refusal(refusal);
+    print_unsigned(if answer.same { 1 } else { 0 });
+    print_line_end();
+}
+
+fn write(schedule: Schedule, out: &mut [u8]) {
+    let answer = sheet::write(schedule, &mut *out);
+    let refusal = answer.refusal;
+    io::write_all(STDOUT_FILENO, b"write");
+    print_refusal(refusal);
+    print_unsigned(answer.length as u64);
+    print_line_end();
+    io::write_all(STDOUT_FILENO, &*out);
+    print_line_end();
+}
+
+fn write_front(fd: i32, schedule: Schedule, out: &mut [u8]) {
+    let length = next_at_most(fd, out.len());
+    write(schedule, &mut out[0..length]);
+}
+
+fn write_fresh(fd: i32, schedule: Schedule) {
+    let mut out = [b'?'; WRITE_ROOM];
+    write_front(fd, schedule, &mut out);
+}
+
+// Makes the call of a code on the part of the table that is lent.
+fn call(fd: i32, code: u64, schedule: Schedule, table: &mut [i64]) {
+    match code {
+        2 => put(fd, table),
+        4 => evaluate(schedule, table),
+        5 => range(fd, &*table),
+        6 => row(fd, &*table),
+        7 => same(fd, &*table),
+        8 => write_fresh(fd, schedule),
+        _ => {}
+    }
+}
+
+// Makes the next call: the state after it.
+fn step(fd: i32, table: &mut [i64], state: State) -> State
+    requires { ⌜ state .length ≤ length (now table) ⌝ }
+    ensures { λ r. ⌜ r .length ≤ length (now (table .entry)) ⌝ }
+{
+    let code = next(fd);
+    let length = state.length;
+    let schedule = state.schedule;
+    match code {
+        0 => State {
+            length,
+            schedule,
+            done: true,
+        },
+        1 => {
+            let length = next_at_most(fd, table.len());
+            let value = next_signed(fd);
+            fill(&mut table[0..length], value);
+            State {
+                length,
+                schedule,
+                done: false,
+            }
+        }
+        3 => {
+            let schedule = next_schedule(fd);
+            State {
+                length,
+                schedule,
+                done: false,
+            }
+        }
+        _ => {
+            call(fd, code, schedule, &mut table[0..length]);
+            State {
+                length,
+                schedule,
+                done: false,
+            }
+        }
+    }
+}
+
+fn make_calls(fd: i32) {
+    let mut table = [0i64; TABLE_ROOM];
+    let mut state = State {
+        length: 0,
+        schedule: sheet::zero_schedule(),
+        done: false,
+    };
+    // A proved loop ends, and nothing says that a file does: no run uses these turns up.
+    let mut turns = u64::MAX;
+    while turns > 0 && !state.done {
+        state = step(fd, &mut table, state);
+        turns -= 1;
+    }
+}
+
+fn main() {
+    let fd = os::open_read(b"calls");
+    if fd < 0 {
+        os::fail(b"calls");
+        return;
+    }
+    make_calls(fd);
+    libc::close(fd);
+}
