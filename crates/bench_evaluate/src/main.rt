@@ -4,13 +4,19 @@ use libc::STDIN_FILENO;
 use libc::STDOUT_FILENO;
 use sheet::Refusal;
 use sheet::Schedule;
-use sheet::number::Field;
 
-const MOST_TURNS: i64 = 10000000;
-// The count's line and one byte more than a sheet may have: that a sheet is longer is noticed.
-const ROOM: usize = 12 + sheet::MAX_BYTES + 1;
+const MOST_TURNS: usize = 10000000;
+
+const MOST_DIGITS: usize = 8;
+// The count's line, and one byte more than a sheet may have: that a sheet is longer is noticed.
+const ROOM: usize = MOST_DIGITS + 1 + sheet::MAX_BYTES + 1;
 // 52 numbers for each of 30 rows.
 const TABLE_NUMBERS: usize = 1560;
+
+struct Digits {
+    value: usize,
+    n: usize,
+}
 
 fn print_number(z: i64) {
     if z < 0 {
@@ -19,8 +25,12 @@ fn print_number(z: i64) {
     io::print_decimal(STDOUT_FILENO, integer::magnitude::absolute(z));
 }
 
-fn print_range(turns: i64, range: evaluation::RangeAnswer) {
-    print_number(turns);
+fn print_count(n: usize) {
+    io::print_decimal(STDOUT_FILENO, n as u64);
+}
+
+fn print_range(turns: usize, range: evaluation::RangeAnswer) {
+    print_count(turns);
     io::write_all(STDOUT_FILENO, b" ");
     print_number(range.low);
     io::write_all(STDOUT_FILENO, b" ");
@@ -32,17 +42,17 @@ fn print_refusal(refusal: Refusal) {
     io::write_all(STDOUT_FILENO, b"refused ");
     io::print_decimal(STDOUT_FILENO, refusal.number);
     io::write_all(STDOUT_FILENO, b" ");
-    io::print_decimal(STDOUT_FILENO, refusal.place as u64);
+    print_count(refusal.place);
     io::write_all(STDOUT_FILENO, b"\n");
 }
 
 // The answer of the last of so many evaluations.
-fn evaluate_again(schedule: Schedule, table: &mut [i64], turns: i64) -> Refusal {
+fn evaluate_again(schedule: Schedule, table: &mut [i64], turns: usize) -> Refusal {
     let mut refusal = Refusal {
         number: 0,
         place: 0,
     };
-    let mut left = sheet::lines::natural(turns);
+    let mut left = turns;
     while left > 0 {
         refusal = evaluation::evaluate(schedule, &mut *table);
         left -= 1;
@@ -54,7 +64,7 @@ fn row_count(schedule: Schedule) -> usize {
     sheet::lines::natural(schedule.inputs) + sheet::lines::natural(schedule.steps)
 }
 
-fn evaluate_and_print(schedule: Schedule, turns: i64) {
+fn evaluate_and_print(schedule: Schedule, turns: usize) {
     let mut table = [0i64; TABLE_NUMBERS];
     let refusal = evaluate_again(schedule, &mut table, turns);
     if refusal.number != 0 {
@@ -65,7 +75,7 @@ fn evaluate_and_print(schedule: Schedule, turns: i64) {
     print_range(turns, evaluation::range(&table, last, last));
 }
 
-fn read_and_print(bytes: &[u8], turns: i64) {
+fn read_and_print(bytes: &[u8], turns: usize) {
     let answer = sheet::read(bytes);
     let refusal = answer.refusal;
     if refusal.number != 0 {
@@ -76,19 +86,48 @@ fn read_and_print(bytes: &[u8], turns: i64) {
     evaluate_and_print(schedule, turns);
 }
 
-// The sheet stands behind the line of the count.
-fn count_and_sheet(bytes: &[u8]) -> bool {
-    let count = sheet::number::field_at(bytes, 0, b'\n');
-    match count {
-        Field::Number { value, next } => {
-            if value < 0 || MOST_TURNS < value || bytes.len() < next {
-                return false;
-            }
-            read_and_print(&bytes[next..], value);
-            true
-        }
-        Field::Broken => false,
+// The digit that a byte stands for, or 10.
+fn digit(b: u8) -> usize {
+    match b {
+        b'0'..=b'9' => (b - b'0') as usize,
+        _ => 10,
     }
+}
+
+// The number that the first bytes spell in digits, and how many they are; a number past the limit has no digit more.
+fn leading_digits(bytes: &[u8]) -> Digits {
+    let mut value: usize = 0;
+    let mut n: usize = 0;
+    while n < bytes.len() {
+        let d = digit(bytes[n]);
+        if 9 < d {
+            return Digits { value, n };
+        }
+        if MOST_TURNS < value {
+            return Digits { value, n };
+        }
+        value = value * 10 + d;
+        n += 1;
+    }
+    Digits { value, n }
+}
+
+fn is_count(digits: Digits) -> bool {
+    0 < digits.n && digits.n <= MOST_DIGITS && digits.value <= MOST_TURNS
+}
+
+// Whether the first line is a count; behind it stands the sheet.
+fn count_and_sheet(bytes: &[u8]) -> bool {
+    let digits = leading_digits(bytes);
+    let end = digits.n;
+    if bytes.len() <= end {
+        return false;
+    }
+    let is_line = is_count(digits) && bytes[end] == b'\n';
+    if is_line {
+        read_and_print(&bytes[end + 1..], digits.value);
+    }
+    is_line
 }
 
 fn main() {

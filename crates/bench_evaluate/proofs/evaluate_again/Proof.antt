@@ -11,9 +11,6 @@ Inv-loop schedule table₀ turns refusal₀ left₀ table refusal left = length 
 abbrev μ-loop : tie.MeasureT-loop
 μ-loop schedule table₀ turns refusal₀ left₀ table refusal left = left
 
-natural-requires : tie.Need-natural-requires Inv-loop μ-loop
-natural-requires c κs = search needs
-
 loop-holds : tie.Need-loop-holds Inv-loop μ-loop
 loop-holds c = search needs
 
@@ -41,7 +38,6 @@ evaluate-again-spec =
     (tie.spec
     Inv-loop
     μ-loop
-    natural-requires
     loop-holds
     evaluate-requires
     sub-left
