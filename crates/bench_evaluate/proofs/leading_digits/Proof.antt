@@ -1,0 +1,63 @@
+-- `leading_digits` is safe and ends: the loop counts to the length, and a number within the limit has room for one more digit.
+use Prim.Native.Nat.{_≤_, _-_}
+use lib.ListN.{length}
+use borrow.Author.Needs.{needs}
+use Rattle.bench_evaluate.proofs.leading_digits.Statement.{statement}
+use Rattle.bench_evaluate.proofs.leading_digits.Tie as tie
+
+abbrev Inv-loop : tie.InvT-loop
+Inv-loop bytes value₀ n₀ value n = n ≤ length bytes
+
+abbrev μ-loop : tie.MeasureT-loop
+μ-loop bytes value₀ n₀ value n = length bytes - n
+
+loop-holds : tie.Need-loop-holds Inv-loop μ-loop
+loop-holds c = search needs
+
+shared-slice-read-digit : tie.Need-shared-slice-read-digit Inv-loop μ-loop
+shared-slice-read-digit c = search needs
+
+digit-requires : tie.Need-digit-requires Inv-loop μ-loop
+digit-requires c κs = search needs
+
+returns : tie.Need-returns Inv-loop μ-loop
+returns c = search needs
+
+returns-2 : tie.Need-returns-2 Inv-loop μ-loop
+returns-2 c = search needs
+
+mul-value : tie.Need-mul-value Inv-loop μ-loop
+mul-value c = search needs
+
+add-value : tie.Need-add-value Inv-loop μ-loop
+add-value c = search needs
+
+add-n : tie.Need-add-n Inv-loop μ-loop
+add-n c = search needs
+
+loop-less : tie.Need-loop-less Inv-loop μ-loop
+loop-less c = search needs
+
+loop-again : tie.Need-loop-again Inv-loop μ-loop
+loop-again c = search needs
+
+returns-3 : tie.Need-returns-3 Inv-loop μ-loop
+returns-3 c = search needs
+
+pub leading-digits-spec : {M : Type 1} → statement M
+leading-digits-spec =
+    tie.close
+    (tie.spec
+    Inv-loop
+    μ-loop
+    loop-holds
+    shared-slice-read-digit
+    digit-requires
+    returns
+    returns-2
+    mul-value
+    add-value
+    add-n
+    loop-less
+    loop-again
+    returns-3)
