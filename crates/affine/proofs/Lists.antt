@@ -1,5 +1,5 @@
 -- Laws of choices, and of lists by index: what a tabulated list holds. By induction on its length.
-use mathlib.Core.Path.{_≡_, refl, ap, ap₂}
+use mathlib.Core.Path.{_≡_, refl, sym, ap, ap₂, _∙_}
 use mathlib.Core.Bool.{Bool, true, false}
 use mathlib.Core.List.{List, [], _∷_, map}
 use Prim.Native.Nat.{ℕ, zero, suc, _<_}
@@ -24,6 +24,10 @@ unfolding tabulate
 getD-tabulate zero f d i h = absurd (not-suc-le-zero h)
 getD-tabulate (suc n) f d zero h = refl
 getD-tabulate (suc n) f d (suc i) h = getD-tabulate n (λ i. f (suc i)) d i (le-of-suc-le-suc h)
+
+-- a function that tabulates a list gives what stands at each index of it
+pub tabulated-at : {A : Type 0} (n : ℕ) (f : ℕ → A) (d : A) (xs : List A) → tabulate n f ≡ xs → (i : ℕ) → i < n → f i ≡ getD xs i d
+tabulated-at n f d xs e i h = sym (getD-tabulate n f d i h) ∙ ap (λ l. getD l i d) e
 
 pub at-tabulate : (n : ℕ) (f : ℕ → ℤ) (i : ℕ) → i < n → at (tabulate n f) i ≡ f i
 at-tabulate n f i h = getD-tabulate n f (pos 0) i h

@@ -30,17 +30,21 @@ namedRow-rowsIn : (table : List ℤ) (n : ℕ) (z : ℤ) → Natural 1 n z → n
 unfolding rowsIn
 namedRow-rowsIn table n z h = getD-tabulate n (rowAt table) (constantRow (pos 0)) (natural z - 1) (omega (arith, h .from, h .to))
 
--- a row read at the index that a field names
-module _ (table : List ℤ) {n k : ℕ} {z : ℤ} (named : Natural 1 n z) (index : k ≡ natural z) where
-  pub named-room : RowsWithin table n → rowWidth * (k - 1) + rowWidth ≤ length table
-  named-room w = omega (arith, w .room, named .from, named .to)
+-- a row read from the first n of a table
+module _ {table : List ℤ} {n k : ℕ} (within : RowsWithin table n) (earlier : k < n) where
+  pub read-room : rowWidth * k + rowWidth ≤ length table
+  read-room = omega (arith, within .room, earlier)
 
-  module _ {x : Row} (read : x ≡ rowAt table (k - 1)) where
-    pub named-span : RowsWithin table n → span x ≤ spanLimit
-    named-span w = subst (λ r. span r ≤ spanLimit) (sym read) (w .spans (k - 1) (omega (arith, named .from, named .to)))
+  pub read-span : {x : Row} → x ≡ rowAt table k → span x ≤ spanLimit
+  read-span read = subst (λ r. span r ≤ spanLimit) (sym read) (within .spans k earlier)
 
-    pub named-is : x ≡ namedRow (rowsIn table n) z
-    named-is = read ∙ ap (λ m. rowAt table (m - 1)) index ∙ sym (namedRow-rowsIn table n z named)
+-- the row at the index that a field names
+module _ {n k : ℕ} {z : ℤ} (named : Natural 1 n z) (index : k ≡ natural z) where
+  pub named-earlier : k - 1 < n
+  named-earlier = omega (arith, named .from, named .to)
+
+  pub named-is : (table : List ℤ) → rowAt table (k - 1) ≡ namedRow (rowsIn table n) z
+  named-is table = ap (λ m. rowAt table (m - 1)) index ∙ sym (namedRow-rowsIn table n z named)
 
 -- the answer, by the code
 module _ (squares : ℕ) (table : List ℤ) (n : ℕ) (t : Step) where

@@ -1,30 +1,42 @@
 // The row of a line of the sheet, made from the rows before it, which stand in a table.
 use crate::table::get_row;
 use affine::Answer;
-use affine::Row;
 use sheet::Schedule;
 use sheet::Step;
 ghost use mathlib.Core.Path.{_≡_};
-ghost use Prim.Native.Nat.{ℕ, _+_, _*_, _<_, _≤_};
-ghost use lib.ListN.{length};
-ghost use Rattle.affine.specs.Limits.{symbols, paired, spanLimit};
-ghost use Rattle.affine.specs.Row.{span};
+ghost use Prim.Native.Nat.{_<_, _≤_};
+ghost use Rattle.affine.specs.Limits.{symbols, paired};
 ghost use Rattle.sheet.proofs.Passing.{StepPassed};
 ghost use Rattle.sheet.proofs.Passed.{Passed};
-ghost use Rattle.evaluation.specs.Table.{rowWidth, rowsIn, RowsWithin};
+ghost use Rattle.evaluation.specs.Table.{rowAt, rowsIn, RowsWithin};
 ghost use Rattle.evaluation.specs.Work.{rowCount, binaryAnswer, stepAnswer, rowAnswer};
 
-// Codes 2 to 4: a sum, a difference or a product.
-fn binary_answer(code: i64, x: Row, y: Row, squares: usize, own: usize) -> Answer
-    requires { ⌜ (squares ≤ paired) × (own < symbols) × (span x ≤ spanLimit) × (span y ≤ spanLimit) ⌝ }
-    ensures { λ r. ⌜ r ≡ binaryAnswer squares own code x y ⌝ }
+// Codes 2 to 4: a sum, a difference or a product of two rows of the table. Each branch reads the rows itself: read once for all three they
+// are taken apart number by number and moved about.
+fn binary_answer(
+    table: &[i64],
+    code: i64,
+    first: usize,
+    second: usize,
+    squares: usize,
+    own: usize,
+) -> Answer
+    requires { ⌜ (squares ≤ paired) × (own < symbols) × (first < own) × (second < own) ⌝ }
+    requires { ⌜ RowsWithin (now table) own ⌝ }
+    ensures { λ r. ⌜ r ≡ binaryAnswer squares own code (rowAt (now (table .entry)) first) (rowAt (now (table .entry)) second) ⌝ }
 {
     if code == 2 {
+        let x = get_row(table, first);
+        let y = get_row(table, second);
         return affine::steps::add(x, y);
     }
     if code == 3 {
+        let x = get_row(table, first);
+        let y = get_row(table, second);
         return affine::steps::subtract(x, y);
     }
+    let x = get_row(table, first);
+    let y = get_row(table, second);
     affine::product::multiply(x, y, squares, own)
 }
 
@@ -39,13 +51,12 @@ fn step_answer(table: &[i64], t: Step, squares: usize, own: usize) -> Answer
         return affine::steps::constant(t.value);
     }
     let first = t.first as usize;
-    let x = get_row(table, first - 1);
     if code == 5 {
+        let x = get_row(table, first - 1);
         return affine::reciprocal::invert(x, squares, own);
     }
     let second = t.second as usize;
-    let y = get_row(table, second - 1);
-    binary_answer(code, x, y, squares, own)
+    binary_answer(table, code, first - 1, second - 1, squares, own)
 }
 
 // The row with index i of a schedule that passed 3, 4 and 5.

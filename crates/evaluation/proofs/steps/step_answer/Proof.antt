@@ -1,20 +1,17 @@
 -- `step_answer` tests the code as its definition does; the rows it reads are those that the step names, for what is read back from the bits of a
 -- field that passed is the field's number.
-use mathlib.Core.Path.{_≡_}
-use Prim.Native.Nat.{_≤_}
+use mathlib.Core.Path.{_≡_, _∙_}
+use Prim.Native.Nat.{_-_, _<_}
 use native.Mathlib.Omega.{arith}
+use lib.IntN.{natAbs}
 use mir.Syntax.{w64}
-use mir.Val.{SFits}
+use mir.Val.{SFits, toZ, ofZ}
 use mir.ValLaws.{toZ-ofZ}
-use Rattle.affine.specs.Limits.{spanLimit}
-use Rattle.affine.specs.Row.{span}
 use Rattle.sheet.specs.Lines.{natural}
 use Rattle.sheet.specs.Limits.{lastCode}
 use Rattle.sheet.proofs.Passing.{Natural}
-use Rattle.evaluation.specs.Table.{rowsIn}
-use Rattle.evaluation.specs.Work.{namedRow}
 use Rattle.evaluation.proofs.FieldBits.{NaturalCast, cast-natural, number-is, number-is-not}
-use Rattle.evaluation.proofs.StepAnswers.{named-room, named-span, named-is, constant-step, reciprocal-step, binary-step}
+use Rattle.evaluation.proofs.StepAnswers.{read-room, read-span, named-earlier, named-is, constant-step, reciprocal-step, binary-step}
 use borrow.Author.Needs.{needs}
 use Rattle.evaluation.proofs.steps.step_answer.Statement.{statement}
 use Rattle.evaluation.proofs.steps.step_answer.Tie as tie
@@ -41,7 +38,7 @@ first-cast c = cast-natural (first-named c) (fields-fit (start c) .1)
 
 -- where it is not 5 either, second does
 abbrev earlier : tie.After-struct-told4 → tie.After-struct-told3
-earlier c = c .before .before .before .before
+earlier c = c .before .before .before
 
 not-reciprocal : (c : tie.After-struct-told4) → natural (start (earlier c) .args .t .code) ≡ lastCode → ⊥
 not-reciprocal c = number-is-not (fields-fit (start (earlier c)) .0) (omega arith) (c .before .before .if2 .left)
@@ -67,57 +64,53 @@ returns c =
 cast-first : tie.Need-cast-first
 cast-first c = first-cast c .fits
 
+-- the row that first names stands before the step's
+first-earlier : (c : tie.After-struct-told3) → natAbs (toZ w64 (ofZ w64 (start c .args .t .first))) - 1 < start c .args .own
+first-earlier c = named-earlier (first-named c) (first-cast c .is)
+
 sub-get-row : tie.Need-sub-get-row
-sub-get-row c = omega (arith, first-cast c .is, first-named c .from)
+sub-get-row c = omega (arith, first-cast (c .before) .is, first-named (c .before) .from)
 
 get-row-requires : tie.Need-get-row-requires
-get-row-requires c κs = named-room (start c .args .table .now) (first-named c) (first-cast c .is) (start c .pre .1)
-
--- what is known of the row read at first, and of the row read at second
-first-span : (c : tie.After-get-row) → span (c .get-row .result) ≤ spanLimit
-first-span c =
-    let s = start (c .before) in
-    named-span (s .args .table .now) (first-named (c .before)) (first-cast (c .before) .is) (c .get-row .ensures) (s .pre .1)
-
-first-is : (c : tie.After-get-row) → c .get-row .result ≡ namedRow (rowsIn (start (c .before) .args .table .now) (start (c .before) .args .own)) (start (c .before) .args .t .first)
-first-is c = named-is (start (c .before) .args .table .now) (first-named (c .before)) (first-cast (c .before) .is) (c .get-row .ensures)
-
-second-span : (c : tie.After-get-row2) → span (c .get-row2 .result) ≤ spanLimit
-second-span c =
-    let s = start (earlier (c .before)) in
-    named-span (s .args .table .now) (second-named (c .before)) (second-cast (c .before) .is) (c .get-row2 .ensures) (s .pre .1)
+get-row-requires c κs = read-room (start (c .before) .pre .1) (first-earlier (c .before))
 
 invert-requires : tie.Need-invert-requires
-invert-requires c κs = let s = start (c .before .before) in (s .pre .0 .0, s .pre .0 .1, first-span (c .before))
+invert-requires c κs =
+    let f = c .before .before in
+    let s = start f in
+    (s .pre .0 .0, s .pre .0 .1, read-span (s .pre .1) (first-earlier f) (c .get-row .ensures))
 
 returns-2 : tie.Need-returns-2
 returns-2 c =
-    let r = c .before .before in
-    let s = start (r .before) in
+    let f = c .before .before .before in
+    let s = start f in
     reciprocal-step (s .args .squares) (s .args .table .now) (s .args .own) (s .args .t)
-    (number-is (fields-fit s .0) (omega arith) (c .before .if2 .taken)) (first-is r) (c .invert .ensures)
+    (number-is (fields-fit s .0) (omega arith) (c .before .before .if2 .taken))
+    (c .before .get-row .ensures ∙ named-is (first-named f) (first-cast f .is) (s .args .table .now))
+    (c .invert .ensures)
 
 cast-second : tie.Need-cast-second
 cast-second c = second-cast c .fits
 
-sub-get-row-2 : tie.Need-sub-get-row-2
-sub-get-row-2 c = omega (arith, second-cast c .is, second-named c .from)
+sub-binary-answer : tie.Need-sub-binary-answer
+sub-binary-answer c = omega (arith, first-cast (earlier c) .is, first-named (earlier c) .from)
 
-get-row-requires-2 : tie.Need-get-row-requires-2
-get-row-requires-2 c κs = named-room (start (earlier c) .args .table .now) (second-named c) (second-cast c .is) (start (earlier c) .pre .1)
+sub-binary-answer-2 : tie.Need-sub-binary-answer-2
+sub-binary-answer-2 c = omega (arith, second-cast c .is, second-named c .from)
 
 binary-answer-requires : tie.Need-binary-answer-requires
 binary-answer-requires c κs =
-    let s = start (earlier (c .before)) in
-    (s .pre .0 .0, s .pre .0 .1, first-span (c .before .before .before .before), second-span c)
+    let s = start (earlier c) in
+    ((s .pre .0 .0, s .pre .0 .1, first-earlier (earlier c), named-earlier (second-named c) (second-cast c .is)), s .pre .1)
 
 returns-3 : tie.Need-returns-3
 returns-3 c =
-    let p = c .before .before in
-    let s = start (earlier p) in
-    binary-step (s .args .squares) (s .args .table .now) (s .args .own) (s .args .t) (not-constant (earlier p)) (not-reciprocal p)
-    (first-is (p .before .before .before))
-    (named-is (s .args .table .now) (second-named p) (second-cast p .is) (c .before .get-row2 .ensures))
+    let p = c .before in
+    let f = earlier p in
+    let s = start f in
+    binary-step (s .args .squares) (s .args .table .now) (s .args .own) (s .args .t) (not-constant f) (not-reciprocal p)
+    (named-is (first-named f) (first-cast f .is) (s .args .table .now))
+    (named-is (second-named p) (second-cast p .is) (s .args .table .now))
     (rw (toZ-ofZ w64 _ (fields-fit s .0)) at (c .binary-answer .ensures))
 
 pub step-answer-spec : {M : Type 1} → statement M
@@ -132,7 +125,7 @@ step-answer-spec =
     invert-requires
     returns-2
     cast-second
-    sub-get-row-2
-    get-row-requires-2
+    sub-binary-answer
+    sub-binary-answer-2
     binary-answer-requires
     returns-3)
