@@ -1,15 +1,13 @@
 // The row of a line of the sheet, made from the rows before it, which stand in a table.
 use crate::table::get_row;
 use affine::Answer;
-use sheet::Schedule;
 use sheet::Step;
 ghost use mathlib.Core.Path.{_≡_};
 ghost use Prim.Native.Nat.{_<_, _≤_};
 ghost use Rattle.affine.specs.Limits.{symbols, paired};
 ghost use Rattle.sheet.proofs.Passing.{StepPassed};
-ghost use Rattle.sheet.proofs.Passed.{Passed};
 ghost use Rattle.evaluation.specs.Table.{rowAt, rowsIn, RowsWithin};
-ghost use Rattle.evaluation.specs.Work.{rowCount, binaryAnswer, stepAnswer, rowAnswer};
+ghost use Rattle.evaluation.specs.Work.{binaryAnswer, stepAnswer};
 
 // Codes 2 to 4: a sum, a difference or a product of two rows of the table. Each branch reads the rows itself: read once for all three they
 // are taken apart number by number and moved about.
@@ -41,7 +39,7 @@ fn binary_answer(
 }
 
 // The row of a step that owns the symbol at index own.
-fn step_answer(table: &[i64], t: Step, squares: usize, own: usize) -> Answer
+pub fn step_answer(table: &[i64], t: Step, squares: usize, own: usize) -> Answer
     requires { ⌜ (squares ≤ paired) × (own < symbols) × StepPassed own (t .code) (t .first) (t .second) (t .value) ⌝ }
     requires { ⌜ RowsWithin (now table) own ⌝ }
     ensures { λ r. ⌜ r ≡ stepAnswer squares (rowsIn (now (table .entry)) own) t ⌝ }
@@ -57,19 +55,4 @@ fn step_answer(table: &[i64], t: Step, squares: usize, own: usize) -> Answer
     }
     let second = t.second as usize;
     binary_answer(table, code, first - 1, second - 1, squares, own)
-}
-
-// The row with index i of a schedule that passed 3, 4 and 5.
-pub fn row_answer(table: &[i64], c: Schedule, i: usize) -> Answer
-    requires { ⌜ Passed c × (i < rowCount c) ⌝ }
-    requires { ⌜ RowsWithin (now table) i ⌝ }
-    ensures { λ r. ⌜ r ≡ rowAnswer c (rowsIn (now (table .entry)) i) ⌝ }
-{
-    let inputs = c.inputs as usize;
-    if i < inputs {
-        let e = c.ends[i];
-        return affine::steps::input(i, e.low, e.high);
-    }
-    let t = c.step[i - inputs];
-    step_answer(table, t, c.squares as usize, i)
 }

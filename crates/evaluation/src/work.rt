@@ -1,5 +1,5 @@
 // All rows of a schedule, one after another, into a table.
-use crate::steps::row_answer;
+use crate::steps::step_answer;
 use crate::table::put_row;
 use affine::Status;
 use sheet::Refusal;
@@ -35,16 +35,23 @@ pub fn work_rows(c: Schedule, table: &mut [i64], rows: usize) -> Refusal
     ensures answer { λ r. ⌜ r ≡ worked c rows .refusal ⌝ }
     ensures left { λ r. ⌜ now (table .exit) ≡ tableAfter (worked c rows .rows) (now (table .entry)) ⌝ }
 {
+    let inputs = c.inputs as usize;
+    let squares = c.squares as usize;
     let mut i: usize = 0;
     while i < rows {
-        let a = row_answer(&*table, c, i);
+        // The schedule is taken apart here: handed on by value it is copied for each row.
+        let a = if i < inputs {
+            let e = c.ends[i];
+            affine::steps::input(i, e.low, e.high)
+        } else {
+            let t = c.step[i - inputs];
+            step_answer(&*table, t, squares, i)
+        };
         let status = a.status;
         let number = status_number(status);
         if number != 0 {
-            return Refusal {
-                number,
-                place: i + 1,
-            };
+            let place = i + 1;
+            return Refusal { number, place };
         }
         let r = a.row;
         put_row(&mut *table, i, r);

@@ -1,69 +1,188 @@
--- `work_rows` works the rows one after another: after i of them none was refused, and the table is what those rows leave of it.
+-- `work_rows` works the rows one after another: after i of them none was refused, and the table is what those rows leave of it. It takes each
+-- row's line as the definition does: the counts that it casts passed, and so did the line's numbers.
 use mathlib.Core.Path.{_≡_, sym, ap, _∙_, subst}
+use mathlib.Core.Logic.{⊎-elim}
 use Prim.Native.Nat.{ℕ, _+_, _-_, _*_, _≤_, _<_}
 use native.Mathlib.Omega.{arith}
 use borrow.Author.Needs.{needs}
+use lib.IntN.{ℤ, natAbs}
 use lib.ListN.{length}
+use mir.Syntax.{w64}
+use mir.Val.{SFits, toZ, ofZ}
+use mir.ValLaws.{toZ-ofZ}
+use Rattle.affine.specs.Limits.{symbols}
 use Rattle.affine.specs.Steps.{number}
+use Rattle.sheet.specs.declared.End.{End}
+use Rattle.sheet.specs.declared.Schedule.{Schedule}
 use Rattle.sheet.specs.Causes.{refusal, accepted}
-use Rattle.evaluation.specs.Table.{rowWidth, tableAfter}
-use Rattle.evaluation.specs.Work.{rowCount, worked}
+use Rattle.sheet.specs.Lines.{natural, endsAt, stepAt}
+use Rattle.sheet.specs.Limits.{maxSteps, endLimit}
+use Rattle.sheet.proofs.Passing.{EndsPassed, StepPassed}
+use Rattle.integer.proofs.Absolute.{fits-within}
+use Rattle.evaluation.specs.Table.{rowWidth, rowsIn, tableAfter}
+use Rattle.evaluation.specs.Work.{rowCount, rowAnswer, worked}
+use Rattle.evaluation.proofs.FieldBits.{NaturalCast, cast-natural}
+use Rattle.evaluation.proofs.Made.{step-of-row}
+use Rattle.evaluation.proofs.StepAnswers as answers
 use Rattle.evaluation.proofs.WorkedTable.{WorkedInto, worked-none, accepted-so-far, length-kept, rows-within, worked-on, worked-refused}
 use Rattle.evaluation.proofs.work.work_rows.Statement.{statement}
 use Rattle.evaluation.proofs.work.work_rows.Tie as tie
 
 abbrev Inv-loop : tie.InvT-loop
-Inv-loop c table₀ rows i₀ table i = (i ≤ rows) × WorkedInto c i table₀ table
+Inv-loop table₀ rows c inputs squares i₀ table i = (i ≤ rows) × WorkedInto c i table₀ table
 
 abbrev μ-loop : tie.MeasureT-loop
-μ-loop c table₀ rows i₀ table i = rows - i
+μ-loop table₀ rows c inputs squares i₀ table i = rows - i
+
+-- the counts, as read
+counts-fit : (c : tie.Start Inv-loop μ-loop) → SFits w64 (c .args .t1 .inputs) × SFits w64 (c .args .t1 .squares)
+counts-fit c = (search needs, search needs)
+
+inputs-cast : (c : tie.Start Inv-loop μ-loop) → NaturalCast (c .args .t1 .inputs)
+inputs-cast c = cast-natural (c .pre .0 .counts .inputs-in) (counts-fit c .0)
+
+squares-cast : (c : tie.Start Inv-loop μ-loop) → NaturalCast (c .args .t1 .squares)
+squares-cast c = cast-natural (c .pre .0 .counts .squares-in) (counts-fit c .1)
 
 -- room for so many rows
 room : (c : tie.Start Inv-loop μ-loop) (n : ℕ) → n ≤ c .args .rows → rowWidth * n ≤ length (c .args .table .now)
 room c n h = omega (arith, c .pre .2)
 
--- room for the rows so far, and a table as long as the one lent
-so-far : (c : tie.At-loop Inv-loop μ-loop) → rowWidth * c .loop .i ≤ length (c .before .args .table .now)
-so-far c = room (c .before) (c .loop .i) (c .loop .inv .0)
+abbrev start : tie.At-loop Inv-loop μ-loop → tie.Start Inv-loop μ-loop
+start c = c .before .before .before
 
-kept : (c : tie.At-loop Inv-loop μ-loop) → length (c .loop .table) ≡ length (c .before .args .table .now)
+-- room for the rows so far, and a table as long as the one lent
+so-far : (c : tie.At-loop Inv-loop μ-loop) → rowWidth * c .loop .i ≤ length (start c .args .table .now)
+so-far c = room (start c) (c .loop .i) (c .loop .inv .0)
+
+kept : (c : tie.At-loop Inv-loop μ-loop) → length (c .loop .table) ≡ length (start c .args .table .now)
 kept c = length-kept (c .loop .inv .1) (so-far c)
 
-loop-holds : tie.Need-loop-holds Inv-loop μ-loop
-loop-holds c = (omega arith, worked-none (c .args .c) (c .args .table .now))
+-- a row of the schedule, which has its symbol
+abbrev schedule : tie.In-loop Inv-loop μ-loop → Schedule
+schedule c = start (c .before) .args .t1
 
-row-answer-requires : tie.Need-row-answer-requires Inv-loop μ-loop
-row-answer-requires c κs =
+abbrev index : tie.In-loop Inv-loop μ-loop → ℕ
+index c = c .before .loop .i
+
+next : (c : tie.In-loop Inv-loop μ-loop) → index c < rowCount (schedule c)
+next c = omega (arith, start (c .before) .pre .1, c .loop-test .taken)
+
+owned : (c : tie.In-loop Inv-loop μ-loop) → index c < symbols
+owned c = let counts = start (c .before) .pre .0 .counts in omega (arith, next c, counts .inputs-in .to, counts .steps-in .to)
+
+-- the row is an input's
+is-input : (c : tie.Then1 Inv-loop μ-loop) → index (c .before) < natural (schedule (c .before) .inputs)
+is-input c = subst (λ k. index (c .before) < k) (inputs-cast (start (c .before .before)) .is) (c .if1 .taken)
+
+abbrev ends : tie.Then1 Inv-loop μ-loop → End
+ends c = endsAt (schedule (c .before)) (index (c .before))
+
+ends-passed : (c : tie.Then1 Inv-loop μ-loop) → EndsPassed (ends c .low) (ends c .high)
+ends-passed c = start (c .before .before) .pre .0 .ends (index (c .before)) (is-input c)
+
+-- an end that passed, as the code reads it
+end-is : (z : ℤ) → natAbs z ≤ endLimit → toZ w64 (ofZ w64 z) ≡ z
+end-is z h = toZ-ofZ w64 z (fits-within z endLimit h (omega arith))
+
+low-is : (c : tie.Then1 Inv-loop μ-loop) → toZ w64 (ofZ w64 (ends c .low)) ≡ ends c .low
+low-is c = end-is (ends c .low) (ends-passed c .low-in)
+
+high-is : (c : tie.Then1 Inv-loop μ-loop) → toZ w64 (ofZ w64 (ends c .high)) ≡ ends c .high
+high-is c = end-is (ends c .high) (ends-passed c .high-in)
+
+-- the row is a step's
+is-step : (c : tie.Else1 Inv-loop μ-loop) → natural (schedule (c .before) .inputs) ≤ index (c .before)
+is-step c = subst (λ k. k ≤ index (c .before)) (inputs-cast (start (c .before .before)) .is) (c .if1 .left)
+
+-- its line
+step-passed : (c : tie.Else1 Inv-loop μ-loop)
+    → let s = start (c .before .before) in
+    let t = stepAt (s .args .t1) (index (c .before) - natAbs (toZ w64 (ofZ w64 (s .args .t1 .inputs)))) in
+    StepPassed (index (c .before)) (t .code) (t .first) (t .second) (t .value)
+step-passed c =
+    let s = start (c .before .before) in
+    let i = index (c .before) in
+    subst (λ k. let t = stepAt (s .args .t1) (i - k) in StepPassed i (t .code) (t .first) (t .second) (t .value))
+    (sym (inputs-cast s .is))
+    (step-of-row (s .args .t1) (s .pre .0) i (next (c .before)) (is-step c))
+
+-- the answer of the row, by either way
+answer : (c : tie.Joined1 Inv-loop μ-loop) → c .if1 .a ≡ rowAnswer (schedule (c .before)) (rowsIn (c .before .before .loop .table) (index (c .before)))
+answer c =
     let l = c .before .before in
-    let s = l .before in
-    let next : l .loop .i < rowCount (s .args .c) = omega (arith, s .pre .1, c .before .loop-test .taken) in
-    ((s .pre .0, next), rows-within (l .loop .inv .1) (so-far l))
+    let s = start l in
+    ⊎-elim
+    (λ w.
+    let e : tie.Then1 Inv-loop μ-loop = record { before = c .before; if1 = w .0 } in
+    w .5 ∙ answers.input-answer (s .args .t1) (l .loop .table) (l .loop .i) (is-input e) (rw (low-is e, high-is e) at (w .4 .ensures)))
+    (λ w.
+    let e : tie.Else1 Inv-loop μ-loop = record { before = c .before; if1 = w .0 } in
+    w .4 ∙ answers.step-answer (s .args .t1) (l .loop .table) (l .loop .i) (squares-cast s .is) (inputs-cast s .is) (is-step e) (w .3 .ensures))
+    (c .if1 .came)
+
+cast-inputs : tie.Need-cast-inputs Inv-loop μ-loop
+cast-inputs c = inputs-cast (c .before) .fits
+
+cast-squares : tie.Need-cast-squares Inv-loop μ-loop
+cast-squares c = squares-cast (c .before .before) .fits
+
+loop-holds : tie.Need-loop-holds Inv-loop μ-loop
+loop-holds c = let s = c .before .before in (omega arith, worked-none (s .args .t1) (s .args .table .now))
+
+mul-e : tie.Need-mul-e Inv-loop μ-loop
+mul-e c = search needs
+
+element-copy-out-e : tie.Need-element-copy-out-e Inv-loop μ-loop
+element-copy-out-e c = omega (arith, is-input c, start (c .before .before) .pre .0 .counts .inputs-in .to)
+
+input-requires : tie.Need-input-requires Inv-loop μ-loop
+input-requires c κs =
+    let e = c .before .before .before in
+    (owned (e .before), rw (low-is e) (omega (arith, ends-passed e .low-in)), rw (high-is e) (omega (arith, ends-passed e .high-in)))
+
+mul-t : tie.Need-mul-t Inv-loop μ-loop
+mul-t c = search needs
+
+element-copy-out-t : tie.Need-element-copy-out-t Inv-loop μ-loop
+element-copy-out-t c =
+    let s = start (c .before .before) in
+    subst (λ k. index (c .before) - k < maxSteps) (sym (inputs-cast s .is)) (omega (arith, is-step c, next (c .before), s .pre .0 .counts .steps-in .to))
+
+step-answer-requires : tie.Need-step-answer-requires Inv-loop μ-loop
+step-answer-requires c κs =
+    let e = c .before .before in
+    let l = e .before .before in
+    let s = start l in
+    let counts = s .pre .0 .counts in
+    ((omega (arith, squares-cast s .is, counts .squares-in .to, counts .inputs-in .to), owned (e .before), step-passed e), rows-within (l .loop .inv .1) (so-far l))
 
 status-number-requires : tie.Need-status-number-requires Inv-loop μ-loop
 status-number-requires c κs = search needs
 
-add-t12 : tie.Need-add-t12 Inv-loop μ-loop
-add-t12 c = search needs
+add-place : tie.Need-add-place Inv-loop μ-loop
+add-place c = search needs
 
 same-length : tie.Need-same-length Inv-loop μ-loop
-same-length c = kept (c .before .before .before .before .before)
+same-length c = kept (c .before .before .before .before)
 
 returns : tie.Need-returns Inv-loop μ-loop
 returns c =
-    let l = c .before .before .before .before .before in
-    let s = l .before in
+    let j = c .before .before in
+    let l = j .before .before in
+    let s = start l in
     let e = c .before .status-number .ensures in
-    let a = c .before .before .row-answer .ensures in
-    let q = worked-refused (l .loop .inv .1) a (s .args .rows) (c .before .before .before .before .loop-test .taken) (λ z. omega (arith, e, c .if1 .taken)) in (
+    let q = worked-refused (l .loop .inv .1) (answer j) (s .args .rows) (j .before .loop-test .taken) (λ z. omega (arith, e, c .if2 .taken)) in (
       ap (λ k. refusal k (l .loop .i + 1)) e ∙ ap (λ v. v .refusal) (sym q),
       l .loop .inv .1 .left ∙ ap (λ v. tableAfter (v .rows) (s .args .table .now)) (sym q),
     )
 
 put-row-requires : tie.Need-put-row-requires Inv-loop μ-loop
 put-row-requires c κs =
-    let l = c .before .before .before .before .before .before .before in
-    let more : l .loop .i + 1 ≤ l .before .args .rows = omega (arith, c .before .before .before .before .before .before .loop-test .taken) in
-    omega (arith, kept l, room (l .before) (l .loop .i + 1) more)
+    let t = c .before .before .before .before .before in
+    let l = t .before in
+    let more : l .loop .i + 1 ≤ start l .args .rows = omega (arith, t .loop-test .taken) in
+    omega (arith, kept l, room (start l) (l .loop .i + 1) more)
 
 add-i : tie.Need-add-i Inv-loop μ-loop
 add-i c = search needs
@@ -74,10 +193,10 @@ loop-less c = search needs
 loop-again : tie.Need-loop-again Inv-loop μ-loop
 loop-again c =
     let o = c .before .before .before .before in
-    let l = o .before .before .before .before .before in
-    let number-zero : number (o .before .before .row-answer .result .status) ≡ 0 = omega (arith, o .before .status-number .ensures, o .if1 .left) in (
-      omega (arith, o .before .before .before .before .loop-test .taken),
-      worked-on (l .loop .inv .1) (o .before .before .row-answer .ensures) number-zero (c .before .put-row .ensures),
+    let j = o .before .before in
+    let number-zero : number (j .if1 .a .status) ≡ 0 = omega (arith, o .before .status-number .ensures, o .if2 .left) in (
+      omega (arith, j .before .loop-test .taken),
+      worked-on (j .before .before .loop .inv .1) (answer j) number-zero (c .before .put-row .ensures),
     )
 
 same-length-2 : tie.Need-same-length-2 Inv-loop μ-loop
@@ -86,10 +205,10 @@ same-length-2 c = kept (c .before)
 returns-2 : tie.Need-returns-2 Inv-loop μ-loop
 returns-2 c =
     let l = c .before in
-    let s = l .before in
+    let s = start l in
     let w = l .loop .inv .1 in
     let all : l .loop .i ≡ s .args .rows = omega (arith, l .loop .inv .0, c .loop-test .left) in
-    subst (λ n. (accepted ≡ worked (s .args .c) n .refusal) × (l .loop .table ≡ tableAfter (worked (s .args .c) n .rows) (s .args .table .now))) all
+    subst (λ n. (accepted ≡ worked (s .args .t1) n .refusal) × (l .loop .table ≡ tableAfter (worked (s .args .t1) n .rows) (s .args .table .now))) all
     (sym (accepted-so-far w), w .left)
 
 pub work-rows-spec : {M : Type 1} → statement M
@@ -98,10 +217,17 @@ work-rows-spec =
     (tie.spec
     Inv-loop
     μ-loop
+    cast-inputs
+    cast-squares
     loop-holds
-    row-answer-requires
+    mul-e
+    element-copy-out-e
+    input-requires
+    mul-t
+    element-copy-out-t
+    step-answer-requires
     status-number-requires
-    add-t12
+    add-place
     same-length
     returns
     put-row-requires
