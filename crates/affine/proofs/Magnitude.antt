@@ -60,10 +60,6 @@ meeting-within {m} {n} a b h ha hb i j =
     one-or-both-within (eqb i j) (two-products m n (at a i) (at b j) (at a j) (at b i) h (ha i) (hb j) (ha j) (hb i))
 
 -- ---- radii
-pub radius-within : {n : ℕ} (r : Row) → span r ≤ n → radius r ≤ n
-unfolding radius
-radius-within r h = omega (arith, span-is-sum r)
-
 squared-within-radius : (squares : ℕ) (r : Row) → squaredRadius squares r ≤ radius r
 unfolding radius squaredRadius
 squared-within-radius squares r = omega (arith, sumAbs-take squares (r .linear))
@@ -160,11 +156,19 @@ either-within : (t : Bool) (z m : ℤ) → natAbs (pick t (z +ℤ m) (pos 0)) �
 either-within true z m = omega (arith, natAbs-add z m)
 either-within false z m = omega arith
 
-module _ (squares : ℕ) (x y : Row) where
+module _ (x y : Row) where
   linear-totals-within : sumAbs (linearTotals x y) ≤ natAbs (x .centre) * sumAbs (y .linear) + natAbs (y .centre) * sumAbs (x .linear)
   unfolding linearTotals
   linear-totals-within = crosswise-within symbols (x .centre) (y .centre) (x .linear) (y .linear)
 
+  pub linear-totals-within-twice : {n : ℕ} → natAbs (x .centre) ≤ n → natAbs (y .centre) ≤ n → sumAbs (x .linear) ≤ n → sumAbs (y .linear) ≤ n
+      → sumAbs (linearTotals x y) ≤ 2 * (n * n)
+  linear-totals-within-twice hc hd ha hb =
+      let second = mul-le-mul hc hb in
+      let first = mul-le-mul hd ha in
+      omega (arith, linear-totals-within)
+
+module _ (squares : ℕ) (x y : Row) where
   pair-totals-within : sumAbs (pairTotals squares x y)
       ≤ natAbs (x .centre) * sumAbs (y .pair) + natAbs (y .centre) * sumAbs (x .pair) + squaredRadius squares x * squaredRadius squares y
   unfolding pairTotals squaredRadius
@@ -186,7 +190,7 @@ module _ (squares : ℕ) (x y : Row) where
   totals-within-spans =
       rw (span-is-sum x, span-is-sum y, natAbs-mul)
       (product-of-sums (natAbs (x .centre)) (sumAbs (x .linear)) (sumAbs (x .pair)) (natAbs (y .centre)) (sumAbs (y .linear)) (sumAbs (y .pair))
-      linear-totals-within pair-totals-within (sumAbs-take squares (x .linear)) (sumAbs-take squares (y .linear)))
+      (linear-totals-within x y) pair-totals-within (sumAbs-take squares (x .linear)) (sumAbs-take squares (y .linear)))
 
   pub totals-within : {n : ℕ} → span x ≤ n → span y ≤ n
       → natAbs (x .centre *ℤ y .centre) + sumAbs (linearTotals x y) + sumAbs (pairTotals squares x y) + dropped squares x y ≤ n * n

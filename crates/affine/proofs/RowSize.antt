@@ -2,7 +2,8 @@
 use mathlib.Core.Path.{_≡_, ap}
 use Prim.Native.Nat.{ℕ, _+_, _≤_}
 use native.Mathlib.Omega.{arith}
-use lib.IntN.{natAbs}
+use mathlib.Core.List.{List}
+use lib.IntN.{ℤ, natAbs}
 use Rattle.integer.specs.Sum.{sumAbs}
 use Rattle.integer.proofs.Sum.{sumAbs-append, sumAbs-element}
 use Rattle.affine.specs.declared.Row.{Row}
@@ -12,6 +13,9 @@ use Rattle.affine.specs.Row.{span}
 pub span-is-sum : (r : Row) → span r ≡ natAbs (r .centre) + (sumAbs (r .linear) + sumAbs (r .pair))
 unfolding span
 span-is-sum r = ap (λ n. natAbs (r .centre) + n) (sumAbs-append (r .linear) (r .pair))
+
+pub element-within : {n : ℕ} (xs : List ℤ) → sumAbs xs ≤ n → (i : ℕ) → natAbs (at xs i) ≤ n
+element-within xs h i = omega (arith, sumAbs-element xs i)
 
 -- of a row whose span is at most n
 module _ {n : ℕ} (r : Row) (h : span r ≤ n) where
@@ -24,8 +28,11 @@ module _ {n : ℕ} (r : Row) (h : span r ≤ n) where
   pub pair-within : sumAbs (r .pair) ≤ n
   pair-within = omega (arith, span-is-sum r)
 
+  pub parts-within : sumAbs (r .linear) + sumAbs (r .pair) ≤ n
+  parts-within = omega (arith, span-is-sum r)
+
   pub linear-at-within : (i : ℕ) → natAbs (at (r .linear) i) ≤ n
-  linear-at-within i = omega (arith, linear-within, sumAbs-element (r .linear) i)
+  linear-at-within = element-within (r .linear) linear-within
 
   pub pair-at-within : (k : ℕ) → natAbs (at (r .pair) k) ≤ n
-  pair-at-within k = omega (arith, pair-within, sumAbs-element (r .pair) k)
+  pair-at-within = element-within (r .pair) pair-within

@@ -14,6 +14,10 @@ use Rattle.affine.specs.PairOrder.{isSquare}
 abbrev pub numbers : Row → List ℤ
 numbers r = r .centre ∷ (r .linear ++ r .pair)
 
+-- a row of its parts
+abbrev pub rowOfParts : ℤ → List ℤ → List ℤ → Row
+rowOfParts c l p = record { centre = c; linear = l; pair = p }
+
 -- "Span: the sum of the absolute values of all 52 numbers." (The field's term: the sum of the centre's magnitude and the radius.)
 unfoldable pub span : Row → ℕ
 span r = sumAbs (numbers r)

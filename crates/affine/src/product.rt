@@ -7,21 +7,20 @@ use crate::limits::UNIT;
 use crate::pair_order::first_of;
 use crate::pair_order::second_of;
 ghost use mathlib.Core.Path.{_≡_};
-ghost use mathlib.Core.List.{map};
+ghost use mathlib.Core.List.{[], map};
 ghost use Prim.Native.Nat.{ℕ, _+_, _*_, _≤_, _<_};
 ghost use lib.IntN.{pos, natAbs, _+ℤ_, _*ℤ_};
+ghost use lib.ListN.{length};
 ghost use Rattle.integer.specs.Sum.{sumAbs};
 ghost use Rattle.affine.specs.Limits.{symbols, pairs, paired, spanLimit};
 ghost use Rattle.affine.specs.Lists.{at, pick};
 ghost use Rattle.affine.specs.PairOrder.{firstOf, secondOf, inUse};
-ghost use Rattle.affine.specs.Row.{span};
+ghost use Rattle.affine.specs.Row.{span, rowOfParts};
 ghost use Rattle.affine.specs.Product.{
   meeting,
   crosswise,
   linearTotals,
   pairTotals,
-  radius,
-  squaredRadius,
   dropped,
   productRounding,
   product,
@@ -92,20 +91,20 @@ pub fn pair_total(
     }
 }
 
-fn linear_quotients(x: Row, y: Row) -> LinearQuotients
-    requires { ⌜ (span x ≤ spanLimit) × (span y ≤ spanLimit) ⌝ }
-    ensures values { λ r. ⌜ r .values ≡ map (productRounding .quotient) (linearTotals x y) ⌝ }
-    ensures remainders { λ r. ⌜ r .remainders ≡ sumAbs (map (productRounding .remainder) (linearTotals x y)) ⌝ }
+// Rows are lent part by part to the loops: a row by value is copied at each call.
+fn linear_quotients(c: i64, a: &[i64; SYMBOLS], d: i64, b: &[i64; SYMBOLS]) -> LinearQuotients
+    requires { ⌜ (natAbs c ≤ spanLimit) × (natAbs d ≤ spanLimit) ⌝ }
+    requires { ⌜ (sumAbs (now a) ≤ spanLimit) × (sumAbs (now b) ≤ spanLimit) ⌝ }
+    ensures values { λ r. ⌜ r .values ≡ map (productRounding .quotient) (linearTotals (rowOfParts c (now (a .entry)) []) (rowOfParts d (now (b .entry)) [])) ⌝ }
+    ensures remainders { λ r. ⌜ r .remainders ≡ sumAbs (map (productRounding .remainder) (linearTotals (rowOfParts c (now (a .entry)) []) (rowOfParts d (now (b .entry)) []))) ⌝ }
 {
-    let c = x.centre;
-    let d = y.centre;
     let mut values = [0i64; SYMBOLS];
     let mut remainders: u64 = 0;
     let mut i: usize = 0;
     while i < SYMBOLS {
-        let a = x.linear[i];
-        let b = y.linear[i];
-        let t = linear_total(c, b, d, a);
+        let ai = a[i];
+        let bi = b[i];
+        let t = linear_total(c, bi, d, ai);
         let q = integer::division::floor_quotient_4096(t);
         let m = integer::division::floor_remainder_4096(t);
         values[i] = q;
@@ -115,22 +114,26 @@ fn linear_quotients(x: Row, y: Row) -> LinearQuotients
     LinearQuotients { values, remainders }
 }
 
-fn pair_quotients(x: Row, y: Row, squares: usize) -> PairQuotients
-    requires { ⌜ (span x ≤ spanLimit) × (span y ≤ spanLimit) ⌝ }
-    ensures values { λ r. ⌜ r .values ≡ map (productRounding .quotient) (pairTotals squares x y) ⌝ }
-    ensures remainders { λ r. ⌜ r .remainders ≡ sumAbs (map (productRounding .remainder) (pairTotals squares x y)) ⌝ }
+fn pair_quotients<'a, 'b>(
+    c: i64,
+    a: &'a [i64; SYMBOLS],
+    p: &'a [i64; PAIRS],
+    d: i64,
+    b: &'b [i64; SYMBOLS],
+    q: &'b [i64; PAIRS],
+    squares: usize,
+) -> PairQuotients
+    requires { ⌜ (span (rowOfParts c (now a) (now p)) ≤ spanLimit) × (span (rowOfParts d (now b) (now q)) ≤ spanLimit) ⌝ }
+    ensures values { λ r. ⌜ r .values ≡ map (productRounding .quotient) (pairTotals squares (rowOfParts c (now (a .entry)) (now (p .entry))) (rowOfParts d (now (b .entry)) (now (q .entry)))) ⌝ }
+    ensures remainders { λ r. ⌜ r .remainders ≡ sumAbs (map (productRounding .remainder) (pairTotals squares (rowOfParts c (now (a .entry)) (now (p .entry))) (rowOfParts d (now (b .entry)) (now (q .entry))))) ⌝ }
 {
-    let a = x.linear;
-    let b = y.linear;
-    let c = x.centre;
-    let d = y.centre;
     let mut values = [0i64; PAIRS];
     let mut remainders: u64 = 0;
     let mut k: usize = 0;
     while k < PAIRS {
-        let p = x.pair[k];
-        let q = y.pair[k];
-        let t = pair_total(&a, &b, c, q, d, p, k, squares);
+        let pk = p[k];
+        let qk = q[k];
+        let t = pair_total(a, b, c, qk, d, pk, k, squares);
         values[k] = integer::division::floor_quotient_4096(t);
         remainders += integer::division::floor_remainder_4096(t);
         k += 1;
@@ -138,29 +141,29 @@ fn pair_quotients(x: Row, y: Row, squares: usize) -> PairQuotients
     PairQuotients { values, remainders }
 }
 
-fn row_radius(r: Row) -> u64
-    requires { ⌜ span r ≤ spanLimit ⌝ }
-    ensures { λ n. ⌜ n ≡ radius r ⌝ }
+fn row_radius<'a>(l: &'a [i64; SYMBOLS], p: &'a [i64; PAIRS]) -> u64
+    requires { ⌜ (length (now l) ≡ symbols) × (length (now p) ≡ pairs) × (sumAbs (now l) + sumAbs (now p) ≤ spanLimit) ⌝ }
+    ensures { λ n. ⌜ n ≡ sumAbs (now (l .entry)) + sumAbs (now (p .entry)) ⌝ }
 {
-    let l = r.linear;
-    let p = r.pair;
     crate::sums::linear_absolutes(l, SYMBOLS) + crate::sums::pair_absolutes(p)
 }
 
-fn row_squared_radius(r: Row, squares: usize) -> u64
-    requires { ⌜ (squares ≤ paired) × (span r ≤ spanLimit) ⌝ }
-    ensures { λ n. ⌜ n ≡ squaredRadius squares r ⌝ }
+// No centre takes part in the dropped part.
+pub fn dropped_part<'a, 'b>(
+    a: &'a [i64; SYMBOLS],
+    p: &'a [i64; PAIRS],
+    b: &'b [i64; SYMBOLS],
+    q: &'b [i64; PAIRS],
+    squares: usize,
+) -> u64
+    requires { ⌜ squares ≤ paired ⌝ }
+    requires { ⌜ (length (now a) ≡ symbols) × (length (now p) ≡ pairs) × (sumAbs (now a) + sumAbs (now p) ≤ spanLimit) ⌝ }
+    requires { ⌜ (length (now b) ≡ symbols) × (length (now q) ≡ pairs) × (sumAbs (now b) + sumAbs (now q) ≤ spanLimit) ⌝ }
+    ensures { λ n. ⌜ n ≡ dropped squares (rowOfParts (pos 0) (now (a .entry)) (now (p .entry))) (rowOfParts (pos 0) (now (b .entry)) (now (q .entry))) ⌝ }
 {
-    let l = r.linear;
-    crate::sums::linear_absolutes(l, squares)
-}
-
-pub fn dropped_part(x: Row, y: Row, squares: usize) -> u64
-    requires { ⌜ (squares ≤ paired) × (span x ≤ spanLimit) × (span y ≤ spanLimit) ⌝ }
-    ensures { λ n. ⌜ n ≡ dropped squares x y ⌝ }
-{
-    let all = row_radius(x) * row_radius(y);
-    let kept = row_squared_radius(x, squares) * row_squared_radius(y, squares);
+    let all = row_radius(a, p) * row_radius(b, q);
+    let kept = crate::sums::linear_absolutes(a, squares)
+        * crate::sums::linear_absolutes(b, squares);
     all - kept
 }
 
@@ -169,11 +172,13 @@ pub fn multiply(x: Row, y: Row, squares: usize, own: usize) -> Answer
     requires { ⌜ (squares ≤ paired) × (own < symbols) × (span x ≤ spanLimit) × (span y ≤ spanLimit) ⌝ }
     ensures { λ r. ⌜ r ≡ product squares own x y ⌝ }
 {
-    let t = x.centre * y.centre;
-    let l = linear_quotients(x, y);
-    let p = pair_quotients(x, y, squares);
+    let c = x.centre;
+    let d = y.centre;
+    let t = c * d;
+    let l = linear_quotients(c, &x.linear, d, &y.linear);
+    let p = pair_quotients(c, &x.linear, &x.pair, d, &y.linear, &y.pair, squares);
     let remainders = integer::division::floor_remainder_4096(t) + l.remainders + p.remainders;
-    let error = dropped_part(x, y, squares) + remainders;
+    let error = dropped_part(&x.linear, &x.pair, &y.linear, &y.pair, squares) + remainders;
     let mut linear = l.values;
     linear[own] = integer::division::ceiling_quotient(error, UNIT) as i64;
     let pair = p.values;

@@ -75,9 +75,8 @@ pub fn range_of(r: Row) -> Range
     ensures { λ a. ⌜ (a .low ≡ low r) × (a .high ≡ high r) ⌝ }
 {
     let c = r.centre;
-    let l = r.linear;
+    let linear = crate::sums::linear_absolutes(&r.linear, SYMBOLS);
     let p = r.pair;
-    let linear = crate::sums::linear_absolutes(l, SYMBOLS);
     let below = linear + pairs_below(p);
     let above = linear + pairs_above(p);
     Range {

@@ -7,6 +7,7 @@ use crate::limits::SYMBOLS;
 use crate::limits::UNIT_SQUARED;
 use crate::pair_order::second_of;
 ghost use mathlib.Core.Path.{_≡_};
+ghost use mathlib.Core.List.{[]};
 ghost use Prim.Native.Nat.{ℕ, _+_, _*_, _≤_, _<_};
 ghost use lib.IntN.{pos, negℤ, natAbs, _+ℤ_};
 ghost use Rattle.integer.specs.Floor.{floorQuotient};
@@ -14,7 +15,7 @@ ghost use Rattle.integer.specs.Sum.{sumAbs};
 ghost use Rattle.affine.specs.Limits.{symbols, pairs, paired, unitSquared, spanLimit};
 ghost use Rattle.affine.specs.Lists.{at, pick};
 ghost use Rattle.affine.specs.PairOrder.{firstOf, secondOf, inUse};
-ghost use Rattle.affine.specs.Row.{span};
+ghost use Rattle.affine.specs.Row.{span, rowOfParts};
 ghost use Rattle.affine.specs.Product.{meeting, linearTotals, pairTotals};
 ghost use Rattle.affine.specs.Reciprocal.{
   slope,
@@ -111,38 +112,41 @@ fn candidate_row(x: Row, squares: usize) -> Row
     }
 }
 
-fn linear_total_absolutes(x: Row, z: Row) -> u64
-    requires { ⌜ (span x ≤ spanLimit) × (span z ≤ spanLimit) ⌝ }
-    ensures { λ r. ⌜ r ≡ sumAbs (linearTotals x z) ⌝ }
+fn linear_total_absolutes(c: i64, a: &[i64; SYMBOLS], d: i64, b: &[i64; SYMBOLS]) -> u64
+    requires { ⌜ (natAbs c ≤ spanLimit) × (natAbs d ≤ spanLimit) ⌝ }
+    requires { ⌜ (sumAbs (now a) ≤ spanLimit) × (sumAbs (now b) ≤ spanLimit) ⌝ }
+    ensures { λ r. ⌜ r ≡ sumAbs (linearTotals (rowOfParts c (now (a .entry)) []) (rowOfParts d (now (b .entry)) [])) ⌝ }
 {
-    let c = x.centre;
-    let d = z.centre;
     let mut sum: u64 = 0;
     let mut i: usize = 0;
     while i < SYMBOLS {
-        let a = x.linear[i];
-        let b = z.linear[i];
-        let t = crate::product::linear_total(c, b, d, a);
+        let ai = a[i];
+        let bi = b[i];
+        let t = crate::product::linear_total(c, bi, d, ai);
         sum += integer::magnitude::absolute(t);
         i += 1;
     }
     sum
 }
 
-fn pair_total_absolutes(x: Row, z: Row, squares: usize) -> u64
-    requires { ⌜ (span x ≤ spanLimit) × (span z ≤ spanLimit) ⌝ }
-    ensures { λ r. ⌜ r ≡ sumAbs (pairTotals squares x z) ⌝ }
+fn pair_total_absolutes<'a, 'b>(
+    c: i64,
+    a: &'a [i64; SYMBOLS],
+    p: &'a [i64; PAIRS],
+    d: i64,
+    b: &'b [i64; SYMBOLS],
+    q: &'b [i64; PAIRS],
+    squares: usize,
+) -> u64
+    requires { ⌜ (span (rowOfParts c (now a) (now p)) ≤ spanLimit) × (span (rowOfParts d (now b) (now q)) ≤ spanLimit) ⌝ }
+    ensures { λ r. ⌜ r ≡ sumAbs (pairTotals squares (rowOfParts c (now (a .entry)) (now (p .entry))) (rowOfParts d (now (b .entry)) (now (q .entry)))) ⌝ }
 {
-    let a = x.linear;
-    let b = z.linear;
-    let c = x.centre;
-    let d = z.centre;
     let mut sum: u64 = 0;
     let mut k: usize = 0;
     while k < PAIRS {
-        let p = x.pair[k];
-        let q = z.pair[k];
-        let t = crate::product::pair_total(&a, &b, c, q, d, p, k, squares);
+        let pk = p[k];
+        let qk = q[k];
+        let t = crate::product::pair_total(a, b, c, qk, d, pk, k, squares);
         sum += integer::magnitude::absolute(t);
         k += 1;
     }
@@ -154,11 +158,13 @@ fn error_bound(x: Row, z: Row, squares: usize) -> u64
     requires { ⌜ (squares ≤ paired) × (span x ≤ spanLimit) × (span z ≤ spanLimit) ⌝ }
     ensures { λ r. ⌜ r ≡ errorBound squares x z ⌝ }
 {
-    let t = x.centre * z.centre - UNIT_SQUARED;
+    let c = x.centre;
+    let d = z.centre;
+    let t = c * d - UNIT_SQUARED;
     let centre = integer::magnitude::absolute(t);
-    let linear = linear_total_absolutes(x, z);
-    let pair = pair_total_absolutes(x, z, squares);
-    let dropped = crate::product::dropped_part(x, z, squares);
+    let linear = linear_total_absolutes(c, &x.linear, d, &z.linear);
+    let pair = pair_total_absolutes(c, &x.linear, &x.pair, d, &z.linear, &z.pair, squares);
+    let dropped = crate::product::dropped_part(&x.linear, &x.pair, &z.linear, &z.pair, squares);
     centre + linear + pair + dropped
 }
 

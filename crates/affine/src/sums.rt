@@ -6,16 +6,16 @@ use crate::limits::SYMBOLS;
 ghost use mathlib.Core.Path.{_≡_};
 ghost use Prim.Native.Nat.{ℕ, suc, _+_, _≤_, _<_};
 ghost use lib.IntN.{natAbs};
-ghost use lib.ListN.{take};
+ghost use lib.ListN.{length, take};
 ghost use Rattle.integer.specs.Sum.{sumAbs};
 ghost use Rattle.affine.specs.Limits.{symbols, pairs, spanLimit};
 ghost use Rattle.affine.specs.Row.{withinSpan, agree, same};
 ghost use Rattle.affine.specs.Capped.{capped};
 
-// The sum of the first n absolute coefficients.
-pub fn linear_absolutes(a: [i64; SYMBOLS], n: usize) -> u64
-    requires { ⌜ (n ≤ symbols) × (sumAbs a ≤ spanLimit) ⌝ }
-    ensures { λ r. ⌜ r ≡ sumAbs (take n a) ⌝ }
+// The sum of the first n absolute coefficients. Callers state the array's length: a proof learns it of an array held, not of one lent.
+pub fn linear_absolutes(a: &[i64; SYMBOLS], n: usize) -> u64
+    requires { ⌜ (n ≤ symbols) × (length (now a) ≡ symbols) × (sumAbs (now a) ≤ spanLimit) ⌝ }
+    ensures { λ r. ⌜ r ≡ sumAbs (take n (now (a .entry))) ⌝ }
 {
     let mut sum: u64 = 0;
     let mut i: usize = 0;
@@ -28,9 +28,9 @@ pub fn linear_absolutes(a: [i64; SYMBOLS], n: usize) -> u64
     sum
 }
 
-pub fn pair_absolutes(p: [i64; PAIRS]) -> u64
-    requires { ⌜ sumAbs p ≤ spanLimit ⌝ }
-    ensures { λ r. ⌜ r ≡ sumAbs p ⌝ }
+pub fn pair_absolutes(p: &[i64; PAIRS]) -> u64
+    requires { ⌜ (length (now p) ≡ pairs) × (sumAbs (now p) ≤ spanLimit) ⌝ }
+    ensures { λ r. ⌜ r ≡ sumAbs (now (p .entry)) ⌝ }
 {
     let mut sum: u64 = 0;
     let mut k: usize = 0;

@@ -4,9 +4,12 @@ use Prim.Native.Nat.{_-_, _*_, _≤_}
 use native.Mathlib.Nat.{mul-le-mul}
 use native.Mathlib.Omega.{arith}
 use borrow.Author.Needs.{needs}
+use lib.IntN.{pos}
+use Rattle.affine.specs.declared.Row.{Row}
 use Rattle.affine.specs.Limits.{spanLimit}
+use Rattle.affine.specs.Row.{rowOfParts}
 use Rattle.affine.specs.Product.{radius, squaredRadius, dropped}
-use Rattle.affine.proofs.Magnitude.{radius-within, kept-within-radii}
+use Rattle.affine.proofs.Magnitude.{kept-within-radii}
 use Rattle.affine.proofs.product.dropped_part.Statement.{statement}
 use Rattle.affine.proofs.product.dropped_part.Tie as tie
 
@@ -17,36 +20,48 @@ row-radius-requires-2 : tie.Need-row-radius-requires-2
 row-radius-requires-2 c κs = search needs
 
 -- ---- the two products
-all-is : (c : tie.After-row-radius2) → c .before .row-radius .result * c .row-radius2 .result ≡ radius (c .before .before .args .x) * radius (c .before .before .args .y)
+abbrev x : tie.Start → Row
+x c = rowOfParts (pos 0) (c .args .a .now) (c .args .p .now)
+
+abbrev y : tie.Start → Row
+y c = rowOfParts (pos 0) (c .args .b .now) (c .args .q .now)
+
+all-is : (c : tie.After-row-radius2)
+    → c .before .row-radius .result * c .row-radius2 .result ≡ radius (x (c .before .before)) * radius (y (c .before .before))
+unfolding radius
 all-is c = ap₂ _*_ (c .before .row-radius .ensures) (c .row-radius2 .ensures)
 
-all-within : (c : tie.Start) → radius (c .args .x) * radius (c .args .y) ≤ spanLimit * spanLimit
-all-within c = mul-le-mul (radius-within (c .args .x) (c .pre .1)) (radius-within (c .args .y) (c .pre .2))
+all-within : (c : tie.Start) → radius (x c) * radius (y c) ≤ spanLimit * spanLimit
+unfolding radius
+all-within c = mul-le-mul (c .pre .1 .0 .2) (c .pre .1 .1 .2)
 
-kept-is : (c : tie.After-row-squared-radius2)
-    → c .before .row-squared-radius .result * c .row-squared-radius2 .result
-    ≡ squaredRadius (c .before .before .before .before .args .squares) (c .before .before .before .before .args .x)
-    * squaredRadius (c .before .before .before .before .args .squares) (c .before .before .before .before .args .y)
-kept-is c = ap₂ _*_ (c .before .row-squared-radius .ensures) (c .row-squared-radius2 .ensures)
+abbrev start : tie.After-linear-absolutes2 → tie.Start
+start c = c .before .before .before .before
+
+kept-is : (c : tie.After-linear-absolutes2)
+    → c .before .linear-absolutes .result * c .linear-absolutes2 .result
+    ≡ squaredRadius (start c .args .squares) (x (start c)) * squaredRadius (start c .args .squares) (y (start c))
+unfolding squaredRadius
+kept-is c = ap₂ _*_ (c .before .linear-absolutes .ensures) (c .linear-absolutes2 .ensures)
 
 kept-within : (c : tie.Start)
-    → squaredRadius (c .args .squares) (c .args .x) * squaredRadius (c .args .squares) (c .args .y) ≤ radius (c .args .x) * radius (c .args .y)
-kept-within c = kept-within-radii (c .args .squares) (c .args .x) (c .args .y)
+    → squaredRadius (c .args .squares) (x c) * squaredRadius (c .args .squares) (y c) ≤ radius (x c) * radius (y c)
+kept-within c = kept-within-radii (c .args .squares) (x c) (y c)
 
 mul-all : tie.Need-mul-all
 mul-all c = rw (all-is c) (omega (arith, all-within (c .before .before)))
 
-row-squared-radius-requires : tie.Need-row-squared-radius-requires
-row-squared-radius-requires c κs = search needs
+linear-absolutes-requires : tie.Need-linear-absolutes-requires
+linear-absolutes-requires c κs = search needs
 
-row-squared-radius-requires-2 : tie.Need-row-squared-radius-requires-2
-row-squared-radius-requires-2 c κs = search needs
+linear-absolutes-requires-2 : tie.Need-linear-absolutes-requires-2
+linear-absolutes-requires-2 c κs = search needs
 
 mul-kept : tie.Need-mul-kept
-mul-kept c = let s = c .before .before .before .before in rw (kept-is c) (omega (arith, kept-within s, all-within s))
+mul-kept c = let s = start c in rw (kept-is c) (omega (arith, kept-within s, all-within s))
 
 sub-result : tie.Need-sub-result
-sub-result c = rw (kept-is c, all-is (c .before .before)) (kept-within (c .before .before .before .before))
+sub-result c = rw (kept-is c, all-is (c .before .before)) (kept-within (start c))
 
 returns : tie.Need-returns
 unfolding dropped
@@ -59,8 +74,8 @@ dropped-part-spec =
     row-radius-requires
     row-radius-requires-2
     mul-all
-    row-squared-radius-requires
-    row-squared-radius-requires-2
+    linear-absolutes-requires
+    linear-absolutes-requires-2
     mul-kept
     sub-result
     returns)

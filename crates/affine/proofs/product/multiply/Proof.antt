@@ -2,49 +2,78 @@
 use mathlib.Core.Path.{_≡_, ap, ap₂, _∙_}
 use Prim.Native.Nat.{ℕ, _+_, _*_, _^_, _≤_, _<_}
 use native.Mathlib.Omega.{arith}
+use mathlib.Core.List.{[], map}
 use lib.IntN.{ℤ, pos, _*ℤ_}
-use lib.ListN.{set}
+use lib.ListN.{length, set}
 use mir.Syntax.{w64}
 use mir.Val.{SFits, toZ, ofZ}
-use mir.ValLaws.{toZ-pos}
+use mir.ValLaws.{toZ-ofZ, toZ-pos}
 use borrow.Author.Needs.{needs}
+use Rattle.integer.specs.Sum.{sumAbs}
 use Rattle.integer.specs.Floor.{ceilingQuotient}
 use Rattle.integer.proofs.Absolute.{fits-within}
 use Rattle.integer.proofs.Machine.{back, operation-fits, operation-gives}
 use Rattle.affine.specs.Limits.{symbols, pairs, unit, spanLimit}
+use Rattle.affine.specs.Row.{rowOfParts}
 use Rattle.affine.specs.Steps.{checked}
-use Rattle.affine.specs.Product.{dropped, productOwn, productRow}
+use Rattle.affine.specs.Product.{linearTotals, pairTotals, dropped, productRounding, productOwn, productRow}
+use Rattle.affine.proofs.RowSize.{centre-within, linear-within, parts-within}
+use Rattle.affine.proofs.Totals.{span-of-parts, linear-totals-of-parts, pair-totals-of-parts, dropped-of-parts}
+use Rattle.affine.proofs.Divided.{remainders}
 use Rattle.affine.proofs.Magnitude.{centre-product-within}
 use Rattle.affine.proofs.ProductError.{allRemainders, remainders-are-sum, error-within}
 use Rattle.affine.proofs.product.multiply.Statement.{statement}
 use Rattle.affine.proofs.product.multiply.Tie as tie
 
 -- ---- the centre's total
-x-fits : (c : tie.Start) → SFits w64 (c .args .x .centre)
+x-fits : (c : tie.Start) → SFits w64 (c .args .t1 .centre)
 x-fits c = search needs
 
-y-fits : (c : tie.Start) → SFits w64 (c .args .y .centre)
+y-fits : (c : tie.Start) → SFits w64 (c .args .t2 .centre)
 y-fits c = search needs
 
 abbrev centre : tie.Start → ℤ
-centre c = c .args .x .centre *ℤ c .args .y .centre
+centre c = c .args .t1 .centre *ℤ c .args .t2 .centre
 
 total-fits : (c : tie.Start) → SFits w64 (centre c)
 total-fits c =
-    fits-within (centre c) (spanLimit * spanLimit) (centre-product-within 0 (c .args .x) (c .args .y) (c .pre .2) (c .pre .3)) (omega arith)
+    fits-within (centre c) (spanLimit * spanLimit) (centre-product-within 0 (c .args .t1) (c .args .t2) (c .pre .2) (c .pre .3)) (omega arith)
 
 total-is : (c : tie.Start)
-    → toZ w64 (ofZ w64 (toZ w64 (ofZ w64 (c .args .x .centre)) *ℤ toZ w64 (ofZ w64 (c .args .y .centre)))) ≡ centre c
+    → toZ w64 (ofZ w64 (toZ w64 (ofZ w64 (c .args .t1 .centre)) *ℤ toZ w64 (ofZ w64 (c .args .t2 .centre)))) ≡ centre c
 total-is c = operation-gives _*ℤ_ (x-fits c) (y-fits c) (total-fits c)
 
 mul-t : tie.Need-mul-t
-mul-t c = let s = c .before .before .before .before in operation-fits _*ℤ_ (x-fits s) (y-fits s) (total-fits s)
+mul-t c = let s = c .before .before in operation-fits _*ℤ_ (x-fits s) (y-fits s) (total-fits s)
+
+-- ---- the parts of both rows, as they are lent
+x-is : (c : tie.Start) → toZ w64 (ofZ w64 (c .args .t1 .centre)) ≡ c .args .t1 .centre
+x-is c = toZ-ofZ w64 _ (x-fits c)
+
+y-is : (c : tie.Start) → toZ w64 (ofZ w64 (c .args .t2 .centre)) ≡ c .args .t2 .centre
+y-is c = toZ-ofZ w64 _ (y-fits c)
+
+x-long : (c : tie.Start) → (length (c .args .t1 .linear) ≡ symbols) × (length (c .args .t1 .pair) ≡ pairs)
+x-long c = search needs
+
+y-long : (c : tie.Start) → (length (c .args .t2 .linear) ≡ symbols) × (length (c .args .t2 .pair) ≡ pairs)
+y-long c = search needs
 
 linear-quotients-requires : tie.Need-linear-quotients-requires
-linear-quotients-requires c κs = search needs
+linear-quotients-requires c κs =
+    let s = c .before .before .before .before .before .before in
+    let hx = s .pre .2 in
+    let hy = s .pre .3 in
+    rw (x-is s, y-is s)
+    ((centre-within (s .args .t1) hx, centre-within (s .args .t2) hy), (linear-within (s .args .t1) hx, linear-within (s .args .t2) hy))
+
+abbrev at-linear : tie.After-linear-quotients → tie.Start
+at-linear c = c .before .before .before .before .before .before .before
 
 pair-quotients-requires : tie.Need-pair-quotients-requires
-pair-quotients-requires c κs = search needs
+pair-quotients-requires c κs =
+    let s = at-linear (c .before .before .before .before .before .before) in
+    rw (x-is s, y-is s, span-of-parts (s .args .t1), span-of-parts (s .args .t2)) (s .pre .2, s .pre .3)
 
 floor-remainder-4096-requires : tie.Need-floor-remainder-4096-requires
 floor-remainder-4096-requires c κs = search needs
@@ -53,24 +82,41 @@ floor-remainder-4096-requires c κs = search needs
 abbrev Remains : Type 0
 Remains = tie.After-floor-remainder-4096
 
+abbrev after-linear : Remains → tie.After-linear-quotients
+after-linear c = c .before .before .before .before .before .before .before .before
+
 abbrev start : Remains → tie.Start
-start c = c .before .before .before .before .before .before .before
+start c = at-linear (after-linear c)
+
+linear-totals : (c : Remains)
+    → let g = start c .args in
+    linearTotals (rowOfParts (toZ w64 (ofZ w64 (g .t1 .centre))) (g .t1 .linear) []) (rowOfParts (toZ w64 (ofZ w64 (g .t2 .centre))) (g .t2 .linear) [])
+    ≡ linearTotals (g .t1) (g .t2)
+linear-totals c = let s = start c in linear-totals-of-parts (s .args .t1) (s .args .t2) (x-is s) (y-is s)
+
+pair-totals : (c : Remains)
+    → let g = start c .args in
+    pairTotals (g .squares) (rowOfParts (toZ w64 (ofZ w64 (g .t1 .centre))) (g .t1 .linear) (g .t1 .pair))
+    (rowOfParts (toZ w64 (ofZ w64 (g .t2 .centre))) (g .t2 .linear) (g .t2 .pair))
+    ≡ pairTotals (g .squares) (g .t1) (g .t2)
+pair-totals c = let s = start c in pair-totals-of-parts (s .args .t1) (s .args .t2) (x-is s) (y-is s) (s .args .squares)
 
 remainders-is : (c : Remains)
-    → c .floor-remainder-4096 .result + c .before .before .linear-quotients .result .remainders + c .before .pair-quotients .result .remainders
-    ≡ allRemainders (start c .args .squares) (start c .args .x) (start c .args .y)
+    → c .floor-remainder-4096 .result + after-linear c .linear-quotients .result .remainders + c .before .pair-quotients .result .remainders
+    ≡ allRemainders (start c .args .squares) (start c .args .t1) (start c .args .t2)
 remainders-is c =
     let s = start c in
     ap₂ _+_
-    (ap₂ _+_ (rw (total-is s) at (c .floor-remainder-4096 .ensures)) (c .before .before .linear-quotients .ensures .1))
-    (c .before .pair-quotients .ensures .1)
-    ∙ remainders-are-sum (s .args .squares) (s .args .x) (s .args .y)
+    (ap₂ _+_ (rw (total-is s) at (c .floor-remainder-4096 .ensures))
+    (after-linear c .linear-quotients .ensures .1 ∙ ap (λ t. sumAbs (remainders t)) (linear-totals c)))
+    (c .before .pair-quotients .ensures .1 ∙ ap (λ t. sumAbs (remainders t)) (pair-totals c))
+    ∙ remainders-are-sum (s .args .squares) (s .args .t1) (s .args .t2)
 
 abbrev error : tie.Start → ℕ
-error c = dropped (c .args .squares) (c .args .x) (c .args .y) + allRemainders (c .args .squares) (c .args .x) (c .args .y)
+error c = dropped (c .args .squares) (c .args .t1) (c .args .t2) + allRemainders (c .args .squares) (c .args .t1) (c .args .t2)
 
 within : (c : tie.Start) → error c ≤ spanLimit * spanLimit + unit * (1 + symbols + pairs)
-within c = error-within (c .args .squares) (c .args .x) (c .args .y) (c .pre .2) (c .pre .3)
+within c = error-within (c .args .squares) (c .args .t1) (c .args .t2) (c .pre .2) (c .pre .3)
 
 add-remainders : tie.Need-add-remainders
 add-remainders c = let r = c .before in omega (arith, remainders-is r, within (start r))
@@ -79,22 +125,31 @@ add-remainders-2 : tie.Need-add-remainders-2
 add-remainders-2 c = let r = c .before .before in omega (arith, remainders-is r, within (start r))
 
 dropped-part-requires : tie.Need-dropped-part-requires
-dropped-part-requires c κs = search needs
+dropped-part-requires c κs =
+    let s = start (c .before .before .before .before .before .before .before .before) in (
+      s .pre .0,
+      (
+        (x-long s .0, x-long s .1, parts-within (s .args .t1) (s .pre .2)),
+        (y-long s .0, y-long s .1, parts-within (s .args .t2) (s .pre .3)),
+      ),
+    )
+
+abbrev remains : tie.After-dropped-part → Remains
+remains c = c .before .before .before .before .before .before .before .before .before
+
+dropped-is : (c : tie.After-dropped-part)
+    → let g = start (remains c) .args in
+    c .dropped-part .result ≡ dropped (g .squares) (g .t1) (g .t2)
+dropped-is c = let g = start (remains c) .args in c .dropped-part .ensures ∙ dropped-of-parts (g .squares) (g .t1) (g .t2)
 
 add-error : tie.Need-add-error
-add-error c = let r = c .before .before .before in omega (arith, remainders-is r, c .dropped-part .ensures, within (start r))
+add-error c = let r = remains c in omega (arith, remainders-is r, dropped-is c, within (start r))
 
 ceiling-quotient-requires : tie.Need-ceiling-quotient-requires
 ceiling-quotient-requires c κs = search needs
 
 cast-linear : tie.Need-cast-linear
 cast-linear c = search needs
-
-mul-linear : tie.Need-mul-linear
-mul-linear c = search needs
-
-array-set-from-linear : tie.Need-array-set-from-linear
-array-set-from-linear c = search needs
 
 floor-quotient-4096-requires : tie.Need-floor-quotient-4096-requires
 floor-quotient-4096-requires c κs = search needs
@@ -103,29 +158,35 @@ check-requires : tie.Need-check-requires
 check-requires c κs = search needs
 
 -- ---- the three parts of the row
-own-is : (c : tie.After-ceiling-quotient) → let s = start (c .before .before .before .before .before) in c .ceiling-quotient .result ≡ ceilingQuotient (error s) unit
+abbrev own-start : tie.After-ceiling-quotient → tie.Start
+own-start c = start (remains (c .before .before))
+
+mul-linear : tie.Need-mul-linear
+mul-linear c = omega (arith, own-start c .pre .1)
+
+array-set-from-linear : tie.Need-array-set-from-linear
+array-set-from-linear c = own-start c .pre .1
+
+own-is : (c : tie.After-ceiling-quotient) → c .ceiling-quotient .result ≡ ceilingQuotient (error (own-start c)) unit
 own-is c =
     let d = c .before .before in
-    c .ceiling-quotient .ensures ∙ ap (λ n. ceilingQuotient n unit) (ap₂ _+_ (d .dropped-part .ensures) (remainders-is (d .before .before .before)))
+    c .ceiling-quotient .ensures ∙ ap (λ n. ceilingQuotient n unit) (ap₂ _+_ (dropped-is d) (remainders-is (remains d)))
 
 own-small : (c : tie.After-ceiling-quotient) → c .ceiling-quotient .result < 2 ^ 63
-own-small c = omega (arith, own-is c, within (start (c .before .before .before .before .before)))
+own-small c = omega (arith, own-is c, within (own-start c))
 
 returns : tie.Need-returns
 unfolding productOwn productRow
 returns c =
     let q = c .before .before .before in
-    let r = q .before .before .before .before .before in
+    let r = remains (q .before .before) in
     let s = start r in
     let centre-is = back (c .before .floor-quotient-4096 .ok) ∙ (rw (total-is s) at (c .before .floor-quotient-4096 .ensures)) in
+    let linear-is = after-linear r .linear-quotients .ensures .0 ∙ ap (map (productRounding .quotient)) (linear-totals r) in
     let own = toZ-pos w64 (q .ceiling-quotient .result) (own-small q) ∙ ap pos (own-is q) in
+    let pair-is = r .before .pair-quotients .ensures .0 ∙ ap (map (productRounding .quotient)) (pair-totals r) in
     c .check .ensures
-    ∙ ap checked
-    (λ i. record {
-      centre = centre-is i;
-      linear = set (r .before .before .linear-quotients .ensures .0 i) (s .args .own) (own i);
-      pair = r .before .pair-quotients .ensures .0 i;
-    })
+    ∙ ap checked (λ i. record { centre = centre-is i; linear = set (linear-is i) (s .args .own) (own i); pair = pair-is i })
 
 pub multiply-spec : {M : Type 1} → statement M
 multiply-spec =

@@ -5,11 +5,13 @@ use native.Mathlib.Omega.{arith}
 use lib.IntN.{ℤ, natAbs}
 use mir.Syntax.{w64}
 use mir.Val.{toZ, ofZ}
+use mir.ValLaws.{toZ-ofZ}
 use borrow.Author.Needs.{needs}
 use Rattle.integer.proofs.Machine.{back}
 use Rattle.affine.specs.declared.Row.{Row}
-use Rattle.affine.specs.Limits.{pairs, unit}
+use Rattle.affine.specs.Limits.{pairs, spanLimit, unit}
 use Rattle.affine.specs.Lists.{at}
+use Rattle.affine.specs.Row.{span, rowOfParts}
 use Rattle.affine.specs.Product.{pairTotals, productRounding}
 use Rattle.affine.proofs.RowSize.{centre-within, linear-at-within, pair-at-within}
 use Rattle.affine.proofs.Totals.{length-pair-totals, pair-total-at}
@@ -18,64 +20,70 @@ use Rattle.affine.proofs.product.pair_quotients.Statement.{statement}
 use Rattle.affine.proofs.product.pair_quotients.Tie as tie
 
 abbrev Inv-loop : tie.InvT-loop
-Inv-loop squares x y a b c d values₀ remainders₀ k₀ values remainders k = Divided pairs (pairTotals squares x y) values remainders k
+Inv-loop c a p d b q squares values₀ remainders₀ k₀ values remainders k = Divided pairs (pairTotals squares (rowOfParts (toZ w64 c) a p) (rowOfParts (toZ w64 d) b q)) values remainders k
 
 abbrev μ-loop : tie.MeasureT-loop
-μ-loop squares x y a b c d values₀ remainders₀ k₀ values remainders k = pairs - k
+μ-loop c a p d b q squares values₀ remainders₀ k₀ values remainders k = pairs - k
 
 loop-holds : tie.Need-loop-holds Inv-loop μ-loop
 loop-holds c = divided-none pairs _
 
-mul-p : tie.Need-mul-p Inv-loop μ-loop
-mul-p c = search needs
+mul-pk : tie.Need-mul-pk Inv-loop μ-loop
+mul-pk c = search needs
 
-element-copy-out-p : tie.Need-element-copy-out-p Inv-loop μ-loop
-element-copy-out-p c = search needs
+element-copy-out-pk : tie.Need-element-copy-out-pk Inv-loop μ-loop
+element-copy-out-pk c = search needs
 
-mul-q : tie.Need-mul-q Inv-loop μ-loop
-mul-q c = search needs
+mul-qk : tie.Need-mul-qk Inv-loop μ-loop
+mul-qk c = search needs
 
-element-copy-out-q : tie.Need-element-copy-out-q Inv-loop μ-loop
-element-copy-out-q c = search needs
+element-copy-out-qk : tie.Need-element-copy-out-qk Inv-loop μ-loop
+element-copy-out-qk c = search needs
 
 -- ---- the numbers of a turn, as they are read
 abbrev Read : Type 0
-Read = tie.After-b2 Inv-loop μ-loop
+Read = tie.After-qk Inv-loop μ-loop
 
 abbrev turn : Read → tie.At-loop Inv-loop μ-loop
-turn c = c .before .before .before .before .before
+turn c = c .before .before .before
 
 abbrev start : Read → tie.Start Inv-loop μ-loop
-start c = turn c .before .before .before .before .before
+start c = turn c .before
+
+c-is : (c : tie.Start Inv-loop μ-loop) → toZ w64 (ofZ w64 (c .args .c)) ≡ c .args .c
+c-is c = toZ-ofZ w64 _ (c .fits .c)
+
+d-is : (c : tie.Start Inv-loop μ-loop) → toZ w64 (ofZ w64 (c .args .d)) ≡ c .args .d
+d-is c = toZ-ofZ w64 _ (c .fits .d)
 
 abbrev x : Read → Row
-x c = start c .args .t1
+x c = rowOfParts (toZ w64 (ofZ w64 (start c .args .c))) (start c .args .a .now) (start c .args .p .now)
 
 abbrev y : Read → Row
-y c = start c .args .t2
+y c = rowOfParts (toZ w64 (ofZ w64 (start c .args .d))) (start c .args .b .now) (start c .args .q .now)
 
 abbrev k : Read → ℕ
 k c = turn c .loop .k
 
-c-is : (c : Read) → toZ w64 (ofZ w64 (x c .centre)) ≡ x c .centre
-c-is c = search needs
+pk-is : (c : Read) → toZ w64 (ofZ w64 (at (x c .pair) (k c))) ≡ at (x c .pair) (k c)
+pk-is c = back (c .before .pk .given)
 
-d-is : (c : Read) → toZ w64 (ofZ w64 (y c .centre)) ≡ y c .centre
-d-is c = search needs
+qk-is : (c : Read) → toZ w64 (ofZ w64 (at (y c .pair) (k c))) ≡ at (y c .pair) (k c)
+qk-is c = back (c .qk .given)
 
-p-is : (c : Read) → toZ w64 (ofZ w64 (at (x c .pair) (k c))) ≡ at (x c .pair) (k c)
-p-is c = back (c .before .before .before .p .given)
+x-within : (c : Read) → span (x c) ≤ spanLimit
+x-within c = rw (c-is (start c)) (start c .pre .0)
 
-q-is : (c : Read) → toZ w64 (ofZ w64 (at (y c .pair) (k c))) ≡ at (y c .pair) (k c)
-q-is c = back (c .before .before .q .given)
+y-within : (c : Read) → span (y c) ≤ spanLimit
+y-within c = rw (d-is (start c)) (start c .pre .1)
 
 pair-total-requires : tie.Need-pair-total-requires Inv-loop μ-loop
 pair-total-requires c κs =
-    let hx = start c .pre .0 in
-    let hy = start c .pre .1 in (
-      c .before .before .before .before .loop-test .taken,
+    let hx = x-within c in
+    let hy = y-within c in (
+      c .before .before .loop-test .taken,
       (
-        rw (c-is c, d-is c, p-is c, q-is c)
+        rw (pk-is c, qk-is c)
             (centre-within (x c) hx, pair-at-within (y c) hy (k c), centre-within (y c) hy, pair-at-within (x c) hx (k c)),
         (linear-at-within (x c) hx, linear-at-within (y c) hy),
       ),
@@ -88,7 +96,7 @@ wanted c = at (pairTotals (start c .args .squares) (x c) (y c)) (k c)
 total : (c : tie.After-pair-total Inv-loop μ-loop) → toZ w64 (ofZ w64 (c .pair-total .result)) ≡ wanted (c .before)
 total c =
     let b = c .before in
-    back (c .pair-total .ok) ∙ (rw (c-is b, d-is b, p-is b, q-is b) at (c .pair-total .ensures))
+    back (c .pair-total .ok) ∙ (rw (pk-is b, qk-is b) at (c .pair-total .ensures))
     ∙ sym (pair-total-at (start b .args .squares) (x b) (y b) (k b) (omega arith))
 
 abbrev Divided-once : Type 0
@@ -134,6 +142,7 @@ returns : tie.Need-returns Inv-loop μ-loop
 returns c =
     let o = c .before in
     let h : pairs ≤ o .loop .k = omega arith in
+    rw (← c-is (o .before), ← d-is (o .before))
     (divided-values (length-pair-totals _ _ _) (o .loop .inv) h, divided-left (length-pair-totals _ _ _) (o .loop .inv) h)
 
 pub pair-quotients-spec : {M : Type 1} → statement M
@@ -143,10 +152,10 @@ pair-quotients-spec =
     Inv-loop
     μ-loop
     loop-holds
-    mul-p
-    element-copy-out-p
-    mul-q
-    element-copy-out-q
+    mul-pk
+    element-copy-out-pk
+    mul-qk
+    element-copy-out-qk
     pair-total-requires
     floor-quotient-4096-requires
     mul-values

@@ -18,10 +18,10 @@ use Rattle.affine.proofs.RangeSize.{reachBelow, reachAbove, reach-below
 use Rattle.affine.proofs.range.range_of.Statement.{statement}
 use Rattle.affine.proofs.range.range_of.Tie as tie
 
-long : (c : tie.Start) → length (c .args .r .linear) ≡ symbols
+long : (c : tie.Start) → length (c .args .t1 .linear) ≡ symbols
 long c = search needs
 
-centre-fits : (c : tie.Start) → SFits w64 (c .args .r .centre)
+centre-fits : (c : tie.Start) → SFits w64 (c .args .t1 .centre)
 centre-fits c = search needs
 
 reach-fits : {n : ℕ} → n ≤ spanLimit → SFits w64 (pos n)
@@ -29,72 +29,75 @@ reach-fits {n} h = record { sfits = omega arith }
 
 -- the two operations that give the ends
 low-step : (c : tie.Start)
-    → let r = c .args .r in
+    → let r = c .args .t1 in
     let z = toZ w64 (ofZ w64 (r .centre)) -ℤ toZ w64 (reachBelow r) in
     SFits w64 z × (toZ w64 (ofZ w64 z) ≡ low r)
 unfolding low
 low-step c =
-    let r = c .args .r in
+    let r = c .args .t1 in
     let f = centre-fits c in
     let g = reach-fits (reach-below-within r (c .pre)) in
     let e = fits-within (low r) spanLimit (low-within r (c .pre)) (omega arith) in
     (operation-fits _-ℤ_ {a = r .centre} {b = pos (reachBelow r)} f g e, operation-gives _-ℤ_ {a = r .centre} {b = pos (reachBelow r)} f g e)
 
 high-step : (c : tie.Start)
-    → let r = c .args .r in
+    → let r = c .args .t1 in
     let z = toZ w64 (ofZ w64 (r .centre)) +ℤ toZ w64 (reachAbove r) in
     SFits w64 z × (toZ w64 (ofZ w64 z) ≡ high r)
 unfolding high
 high-step c =
-    let r = c .args .r in
+    let r = c .args .t1 in
     let f = centre-fits c in
     let g = reach-fits (reach-above-within r (c .pre)) in
     let e = fits-within (high r) spanLimit (high-within r (c .pre)) (omega arith) in
     (operation-fits _+ℤ_ {a = r .centre} {b = pos (reachAbove r)} f g e, operation-gives _+ℤ_ {a = r .centre} {b = pos (reachAbove r)} f g e)
 
 linear-absolutes-requires : tie.Need-linear-absolutes-requires
-linear-absolutes-requires c κs = let s = c .before .before .before in (omega arith, linear-within (s .args .r) (s .pre))
-
-pairs-below-requires : tie.Need-pairs-below-requires
-pairs-below-requires c κs = let s = c .before .before .before .before in pair-within (s .args .r) (s .pre)
+linear-absolutes-requires c κs = let s = c .before .before .before in (omega arith, long s, linear-within (s .args .t1) (s .pre))
 
 -- what the linear coefficients and the pairs reach together
-linear-is : (c : tie.After-linear-absolutes) → c .linear-absolutes .result ≡ sumAbs (c .before .before .before .before .args .r .linear)
+abbrev start : tie.After-linear-absolutes → tie.Start
+start c = c .before .before .before .before
+
+linear-is : (c : tie.After-linear-absolutes) → c .linear-absolutes .result ≡ sumAbs (start c .args .t1 .linear)
 linear-is c =
-    let s = c .before .before .before .before in
-    c .linear-absolutes .ensures ∙ sumAbs-all (s .args .r .linear) symbols (omega (arith, long s))
+    let s = start c in
+    c .linear-absolutes .ensures ∙ sumAbs-all (s .args .t1 .linear) symbols (omega (arith, long s))
+
+pairs-below-requires : tie.Need-pairs-below-requires
+pairs-below-requires c κs = let s = start (c .before) in pair-within (s .args .t1) (s .pre)
 
 below-is : (c : tie.After-pairs-below)
-    → c .before .linear-absolutes .result + c .pairs-below .result ≡ reachBelow (c .before .before .before .before .before .args .r)
-below-is c = ap₂ _+_ (linear-is (c .before)) (c .pairs-below .ensures)
+    → c .before .before .linear-absolutes .result + c .pairs-below .result ≡ reachBelow (start (c .before .before) .args .t1)
+below-is c = ap₂ _+_ (linear-is (c .before .before)) (c .pairs-below .ensures)
 
 above-is : (c : tie.After-pairs-above)
-    → c .before .before .linear-absolutes .result + c .pairs-above .result ≡ reachAbove (c .before .before .before .before .before .before .args .r)
-above-is c = ap₂ _+_ (linear-is (c .before .before)) (c .pairs-above .ensures)
+    → c .before .before .before .linear-absolutes .result + c .pairs-above .result ≡ reachAbove (start (c .before .before .before) .args .t1)
+above-is c = ap₂ _+_ (linear-is (c .before .before .before)) (c .pairs-above .ensures)
 
 add-below : tie.Need-add-below
-add-below c = let s = c .before .before .before .before .before in omega (arith, below-is c, reach-below-within (s .args .r) (s .pre))
+add-below c = let s = start (c .before .before) in omega (arith, below-is c, reach-below-within (s .args .t1) (s .pre))
 
 pairs-above-requires : tie.Need-pairs-above-requires
-pairs-above-requires c κs = let s = c .before .before .before .before .before in pair-within (s .args .r) (s .pre)
+pairs-above-requires c κs = let s = start (c .before .before) in pair-within (s .args .t1) (s .pre)
 
 add-above : tie.Need-add-above
-add-above c = let s = c .before .before .before .before .before .before in omega (arith, above-is c, reach-above-within (s .args .r) (s .pre))
+add-above c = let s = start (c .before .before .before) in omega (arith, above-is c, reach-above-within (s .args .t1) (s .pre))
 
-cast-t9 : tie.Need-cast-t9
-cast-t9 c = let s = c .before .before .before .before .before .before in rw (below-is (c .before)) (reach-fits (reach-below-within (s .args .r) (s .pre)))
+cast-t10 : tie.Need-cast-t10
+cast-t10 c = let s = start (c .before .before .before) in rw (below-is (c .before)) (reach-fits (reach-below-within (s .args .t1) (s .pre)))
 
-sub-t10 : tie.Need-sub-t10
-sub-t10 c = let s = c .before .before .before .before .before .before in rw (below-is (c .before)) (low-step s .0)
+sub-t11 : tie.Need-sub-t11
+sub-t11 c = let s = start (c .before .before .before) in rw (below-is (c .before)) (low-step s .0)
 
-cast-t11 : tie.Need-cast-t11
-cast-t11 c = let s = c .before .before .before .before .before .before in rw (above-is c) (reach-fits (reach-above-within (s .args .r) (s .pre)))
+cast-t12 : tie.Need-cast-t12
+cast-t12 c = let s = start (c .before .before .before) in rw (above-is c) (reach-fits (reach-above-within (s .args .t1) (s .pre)))
 
-add-t12 : tie.Need-add-t12
-add-t12 c = let s = c .before .before .before .before .before .before in rw (above-is c) (high-step s .0)
+add-t13 : tie.Need-add-t13
+add-t13 c = let s = start (c .before .before .before) in rw (above-is c) (high-step s .0)
 
 returns : tie.Need-returns
-returns c = let s = c .before .before .before .before .before .before in (rw (below-is (c .before)) (low-step s .1), rw (above-is c) (high-step s .1))
+returns c = let s = start (c .before .before .before) in (rw (below-is (c .before)) (low-step s .1), rw (above-is c) (high-step s .1))
 
 pub range-of-spec : {M : Type 1} → statement M
 range-of-spec =
@@ -105,8 +108,8 @@ range-of-spec =
     add-below
     pairs-above-requires
     add-above
-    cast-t9
-    sub-t10
-    cast-t11
-    add-t12
+    cast-t10
+    sub-t11
+    cast-t12
+    add-t13
     returns)

@@ -6,11 +6,13 @@ use lib.IntN.{ℤ, natAbs}
 use lib.ListN.{length}
 use mir.Syntax.{w64}
 use mir.Val.{toZ, ofZ}
+use mir.ValLaws.{toZ-ofZ}
 use borrow.Author.Needs.{needs}
 use Rattle.integer.proofs.Machine.{back}
 use Rattle.affine.specs.declared.Row.{Row}
-use Rattle.affine.specs.Limits.{pairs}
+use Rattle.affine.specs.Limits.{pairs, spanLimit}
 use Rattle.affine.specs.Lists.{at}
+use Rattle.affine.specs.Row.{span, rowOfParts}
 use Rattle.affine.specs.Product.{pairTotals}
 use Rattle.affine.proofs.SumLaws.{Summed, summed-none, summed-more, summed-within, summed-whole}
 use Rattle.affine.proofs.RowSize.{centre-within, linear-at-within, pair-at-within}
@@ -20,64 +22,70 @@ use Rattle.affine.proofs.reciprocal.pair_total_absolutes.Statement.{sta
 use Rattle.affine.proofs.reciprocal.pair_total_absolutes.Tie as tie
 
 abbrev Inv-loop : tie.InvT-loop
-Inv-loop squares x z a b c d sum₀ k₀ sum k = Summed pairs (pairTotals squares x z) k sum
+Inv-loop c a p d b q squares sum₀ k₀ sum k = Summed pairs (pairTotals squares (rowOfParts (toZ w64 c) a p) (rowOfParts (toZ w64 d) b q)) k sum
 
 abbrev μ-loop : tie.MeasureT-loop
-μ-loop squares x z a b c d sum₀ k₀ sum k = pairs - k
+μ-loop c a p d b q squares sum₀ k₀ sum k = pairs - k
 
 loop-holds : tie.Need-loop-holds Inv-loop μ-loop
 loop-holds c = summed-none pairs _
 
-mul-p : tie.Need-mul-p Inv-loop μ-loop
-mul-p c = search needs
+mul-pk : tie.Need-mul-pk Inv-loop μ-loop
+mul-pk c = search needs
 
-element-copy-out-p : tie.Need-element-copy-out-p Inv-loop μ-loop
-element-copy-out-p c = search needs
+element-copy-out-pk : tie.Need-element-copy-out-pk Inv-loop μ-loop
+element-copy-out-pk c = search needs
 
-mul-q : tie.Need-mul-q Inv-loop μ-loop
-mul-q c = search needs
+mul-qk : tie.Need-mul-qk Inv-loop μ-loop
+mul-qk c = search needs
 
-element-copy-out-q : tie.Need-element-copy-out-q Inv-loop μ-loop
-element-copy-out-q c = search needs
+element-copy-out-qk : tie.Need-element-copy-out-qk Inv-loop μ-loop
+element-copy-out-qk c = search needs
 
 -- ---- the numbers of a turn, as they are read
 abbrev Read : Type 0
-Read = tie.After-b2 Inv-loop μ-loop
+Read = tie.After-qk Inv-loop μ-loop
 
 abbrev turn : Read → tie.At-loop Inv-loop μ-loop
-turn c = c .before .before .before .before .before
+turn c = c .before .before .before
 
 abbrev start : Read → tie.Start Inv-loop μ-loop
-start c = turn c .before .before .before .before .before
+start c = turn c .before
+
+c-is : (c : tie.Start Inv-loop μ-loop) → toZ w64 (ofZ w64 (c .args .c)) ≡ c .args .c
+c-is c = toZ-ofZ w64 _ (c .fits .c)
+
+d-is : (c : tie.Start Inv-loop μ-loop) → toZ w64 (ofZ w64 (c .args .d)) ≡ c .args .d
+d-is c = toZ-ofZ w64 _ (c .fits .d)
 
 abbrev x : Read → Row
-x c = start c .args .t1
+x c = rowOfParts (toZ w64 (ofZ w64 (start c .args .c))) (start c .args .a .now) (start c .args .p .now)
 
 abbrev y : Read → Row
-y c = start c .args .t2
+y c = rowOfParts (toZ w64 (ofZ w64 (start c .args .d))) (start c .args .b .now) (start c .args .q .now)
 
 abbrev k : Read → ℕ
 k c = turn c .loop .k
 
-c-is : (c : Read) → toZ w64 (ofZ w64 (x c .centre)) ≡ x c .centre
-c-is c = search needs
+pk-is : (c : Read) → toZ w64 (ofZ w64 (at (x c .pair) (k c))) ≡ at (x c .pair) (k c)
+pk-is c = back (c .before .pk .given)
 
-d-is : (c : Read) → toZ w64 (ofZ w64 (y c .centre)) ≡ y c .centre
-d-is c = search needs
+qk-is : (c : Read) → toZ w64 (ofZ w64 (at (y c .pair) (k c))) ≡ at (y c .pair) (k c)
+qk-is c = back (c .qk .given)
 
-p-is : (c : Read) → toZ w64 (ofZ w64 (at (x c .pair) (k c))) ≡ at (x c .pair) (k c)
-p-is c = back (c .before .before .before .p .given)
+x-within : (c : Read) → span (x c) ≤ spanLimit
+x-within c = rw (c-is (start c)) (start c .pre .0)
 
-q-is : (c : Read) → toZ w64 (ofZ w64 (at (y c .pair) (k c))) ≡ at (y c .pair) (k c)
-q-is c = back (c .before .before .q .given)
+y-within : (c : Read) → span (y c) ≤ spanLimit
+y-within c = rw (d-is (start c)) (start c .pre .1)
 
 pair-total-requires : tie.Need-pair-total-requires Inv-loop μ-loop
 pair-total-requires c κs =
-    let hx = start c .pre .0 in
-    let hy = start c .pre .1 in (
-      c .before .before .before .before .loop-test .taken,
+    let hx = x-within c in
+    let hy = y-within c in (
+      c .before .before .loop-test .taken,
       (
-        rw (c-is c, d-is c, p-is c, q-is c)
+        rw (pk-is c, qk-is c)
             (centre-within (x c) hx, pair-at-within (y c) hy (k c), centre-within (y c) hy, pair-at-within (x c) hx (k c)),
         (linear-at-within (x c) hx, linear-at-within (y c) hy),
       ),
@@ -90,7 +98,7 @@ wanted c = at (pairTotals (start c .args .squares) (x c) (y c)) (k c)
 total : (c : tie.After-pair-total Inv-loop μ-loop) → toZ w64 (ofZ w64 (c .pair-total .result)) ≡ wanted (c .before)
 total c =
     let b = c .before in
-    back (c .pair-total .ok) ∙ (rw (c-is b, d-is b, p-is b, q-is b) at (c .pair-total .ensures))
+    back (c .pair-total .ok) ∙ (rw (pk-is b, qk-is b) at (c .pair-total .ensures))
     ∙ sym (pair-total-at (start b .args .squares) (x b) (y b) (k b) (omega arith))
 
 abbrev Added : Type 0
@@ -108,11 +116,10 @@ absolute-requires c κs = search needs
 add-sum : tie.Need-add-sum Inv-loop μ-loop
 add-sum c =
     let b = c .before .before in
-    let p = start b .pre in
     omega (
       arith,
       summed-within (turn b .loop .inv) (omega arith) (long _ _ _) (added c),
-      totals-within (start b .args .squares) (x b) (y b) (p .0) (p .1),
+      totals-within (start b .args .squares) (x b) (y b) (x-within b) (y-within b),
     )
 
 add-k : tie.Need-add-k Inv-loop μ-loop
@@ -127,7 +134,7 @@ loop-again c =
     summed-more (o .loop .inv) (omega arith) (long _ _ _) (added c)
 
 returns : tie.Need-returns Inv-loop μ-loop
-returns c = summed-whole (c .before .loop .inv) (c .loop-test .left) (length-pair-totals _ _ _)
+returns c = rw (← c-is (c .before .before), ← d-is (c .before .before)) (summed-whole (c .before .loop .inv) (c .loop-test .left) (length-pair-totals _ _ _))
 
 pub pair-total-absolutes-spec : {M : Type 1} → statement M
 pair-total-absolutes-spec =
@@ -136,10 +143,10 @@ pair-total-absolutes-spec =
     Inv-loop
     μ-loop
     loop-holds
-    mul-p
-    element-copy-out-p
-    mul-q
-    element-copy-out-q
+    mul-pk
+    element-copy-out-pk
+    mul-qk
+    element-copy-out-qk
     pair-total-requires
     absolute-requires
     add-sum

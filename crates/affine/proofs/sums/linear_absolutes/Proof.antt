@@ -6,17 +6,16 @@ use mathlib.Core.Path.{_≡_}
 use lib.ListN.{length}
 use borrow.Author.Needs.{needs}
 use Rattle.integer.proofs.Machine.{back}
-use Rattle.affine.specs.Limits.{symbols}
 use Rattle.affine.specs.Lists.{at}
 use Rattle.affine.proofs.SumLaws.{Summed, summed-none, summed-more, summed-within, summed-all}
 use Rattle.affine.proofs.sums.linear_absolutes.Statement.{statement}
 use Rattle.affine.proofs.sums.linear_absolutes.Tie as tie
 
 abbrev Inv-loop : tie.InvT-loop
-Inv-loop n a sum₀ i₀ sum i = Summed n a i sum
+Inv-loop a n sum₀ i₀ sum i = Summed n a i sum
 
 abbrev μ-loop : tie.MeasureT-loop
-μ-loop n a sum₀ i₀ sum i = n - i
+μ-loop a n sum₀ i₀ sum i = n - i
 
 loop-holds : tie.Need-loop-holds Inv-loop μ-loop
 loop-holds c = summed-none _ _
@@ -24,24 +23,24 @@ loop-holds c = summed-none _ _
 mul-v : tie.Need-mul-v Inv-loop μ-loop
 mul-v c = search needs
 
-array-copy-out-v : tie.Need-array-copy-out-v Inv-loop μ-loop
-array-copy-out-v c = search needs
+element-copy-out-v : tie.Need-element-copy-out-v Inv-loop μ-loop
+element-copy-out-v c = search needs
 
 absolute-requires : tie.Need-absolute-requires Inv-loop μ-loop
 absolute-requires c κs = search needs
 
 -- what a turn adds
 added : (c : tie.After-absolute Inv-loop μ-loop)
-    → c .absolute .result ≡ natAbs (at (c .before .before .before .before .args .t1) (c .before .before .before .loop .i))
+    → c .absolute .result ≡ natAbs (at (c .before .before .before .before .args .a .now) (c .before .before .before .loop .i))
 added c = rw (back (c .before .v .given)) at (c .absolute .ensures)
 
-long : (c : tie.Start Inv-loop μ-loop) → c .args .n ≤ length (c .args .t1)
-long c = let e : length (c .args .t1) ≡ symbols = search needs in omega arith
+long : (c : tie.Start Inv-loop μ-loop) → c .args .n ≤ length (c .args .a .now)
+long c = omega (arith, c .pre .0, c .pre .1)
 
 add-sum : tie.Need-add-sum Inv-loop μ-loop
 add-sum c =
     let o = c .before .before .before in
-    omega (arith, summed-within (o .loop .inv) (c .before .before .loop-test .taken) (long (o .before)) (added c), o .before .pre .1)
+    omega (arith, summed-within (o .loop .inv) (c .before .before .loop-test .taken) (long (o .before)) (added c), o .before .pre .2)
 
 add-i : tie.Need-add-i Inv-loop μ-loop
 add-i c = search needs
@@ -65,7 +64,7 @@ linear-absolutes-spec =
     μ-loop
     loop-holds
     mul-v
-    array-copy-out-v
+    element-copy-out-v
     absolute-requires
     add-sum
     add-i

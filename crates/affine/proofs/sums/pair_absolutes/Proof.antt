@@ -24,24 +24,24 @@ loop-holds c = summed-none _ _
 mul-v : tie.Need-mul-v Inv-loop μ-loop
 mul-v c = search needs
 
-array-copy-out-v : tie.Need-array-copy-out-v Inv-loop μ-loop
-array-copy-out-v c = search needs
+element-copy-out-v : tie.Need-element-copy-out-v Inv-loop μ-loop
+element-copy-out-v c = search needs
 
 absolute-requires : tie.Need-absolute-requires Inv-loop μ-loop
 absolute-requires c κs = search needs
 
 -- what a turn adds
 added : (c : tie.After-absolute Inv-loop μ-loop)
-    → c .absolute .result ≡ natAbs (at (c .before .before .before .before .args .t1) (c .before .before .before .loop .k))
+    → c .absolute .result ≡ natAbs (at (c .before .before .before .before .args .p .now) (c .before .before .before .loop .k))
 added c = rw (back (c .before .v .given)) at (c .absolute .ensures)
 
-long : (c : tie.Start Inv-loop μ-loop) → length (c .args .t1) ≡ pairs
-long c = search needs
+long : (c : tie.Start Inv-loop μ-loop) → length (c .args .p .now) ≡ pairs
+long c = c .pre .0
 
 add-sum : tie.Need-add-sum Inv-loop μ-loop
 add-sum c =
     let o = c .before .before .before in
-    omega (arith, summed-within (o .loop .inv) (c .before .before .loop-test .taken) (omega (arith, long (o .before))) (added c), o .before .pre)
+    omega (arith, summed-within (o .loop .inv) (c .before .before .loop-test .taken) (omega (arith, long (o .before))) (added c), o .before .pre .1)
 
 add-k : tie.Need-add-k Inv-loop μ-loop
 add-k c = search needs
@@ -65,7 +65,7 @@ pair-absolutes-spec =
     μ-loop
     loop-holds
     mul-v
-    array-copy-out-v
+    element-copy-out-v
     absolute-requires
     add-sum
     add-k
