@@ -59,7 +59,7 @@ get-row-requires-6 c κs = search needs
 multiply-requires : tie.Need-multiply-requires
 multiply-requires c κs =
     let p = c .before .before .before .before .pre in
-    (p .0 .0, p .0 .1, read-span (p .1) (p .0 .2) (c .before .get-row5 .ensures), read-span (p .1) (p .0 .3) (c .get-row6 .ensures))
+    (p .0 .0, search needs, read-span (p .1) (p .0 .2) (c .before .get-row5 .ensures), read-span (p .1) (p .0 .3) (c .get-row6 .ensures))
 
 returns-3 : tie.Need-returns-3
 unfolding binaryAnswer
