@@ -8,7 +8,7 @@ use Rattle.affine.specs.declared.Row.{Row}
 use Rattle.affine.specs.Limits.{symbols, pairs}
 use Rattle.affine.specs.Lists.{pick, at}
 use Rattle.affine.specs.PairOrder.{firstOf, secondOf, inUse}
-use Rattle.affine.specs.Row.{span, rowOfParts}
+use Rattle.affine.specs.Row.{rowOfParts}
 use Rattle.affine.specs.Product.{meeting, crosswise, linearTotals, pairTotals, radius, squaredRadius, dropped}
 use Rattle.affine.proofs.Lists.{length-tabulate, at-tabulate}
 
@@ -34,10 +34,6 @@ unfolding pairTotals
 pair-total-at squares x y k h = at-tabulate pairs _ k h
 
 -- ---- from the parts: the linear totals need no pair coefficients, the dropped part no centres
-pub span-of-parts : (r : Row) → span (rowOfParts (r .centre) (r .linear) (r .pair)) ≡ span r
-unfolding span
-span-of-parts r = refl
-
 module _ (x y : Row) {c d : ℤ} (e : c ≡ x .centre) (f : d ≡ y .centre) where
   pub linear-totals-of-parts : linearTotals (rowOfParts c (x .linear) []) (rowOfParts d (y .linear) []) ≡ linearTotals x y
   unfolding linearTotals
@@ -45,7 +41,6 @@ module _ (x y : Row) {c d : ℤ} (e : c ≡ x .centre) (f : d ≡ y .centre) whe
 
   pub pair-totals-of-parts : (squares : ℕ)
       → pairTotals squares (rowOfParts c (x .linear) (x .pair)) (rowOfParts d (y .linear) (y .pair)) ≡ pairTotals squares x y
-  unfolding pairTotals
   pair-totals-of-parts squares =
       ap₂ (λ c d. pairTotals squares (rowOfParts c (x .linear) (x .pair)) (rowOfParts d (y .linear) (y .pair))) e f
 

@@ -18,7 +18,7 @@ use Rattle.affine.specs.Row.{rowOfParts}
 use Rattle.affine.specs.Steps.{checked}
 use Rattle.affine.specs.Product.{linearTotals, pairTotals, dropped, productRounding, productOwn, productRow}
 use Rattle.affine.proofs.RowSize.{centre-within, linear-within, parts-within}
-use Rattle.affine.proofs.Totals.{span-of-parts, linear-totals-of-parts, pair-totals-of-parts, dropped-of-parts}
+use Rattle.affine.proofs.Totals.{linear-totals-of-parts, pair-totals-of-parts, dropped-of-parts}
 use Rattle.affine.proofs.Divided.{remainders}
 use Rattle.affine.proofs.Magnitude.{centre-product-within}
 use Rattle.affine.proofs.ProductError.{allRemainders, remainders-are-sum, error-within}
@@ -73,7 +73,7 @@ at-linear c = c .before .before .before .before .before .before .before
 pair-quotients-requires : tie.Need-pair-quotients-requires
 pair-quotients-requires c κs =
     let s = at-linear (c .before .before .before .before .before .before) in
-    rw (x-is s, y-is s, span-of-parts (s .args .t1), span-of-parts (s .args .t2)) (s .pre .2, s .pre .3)
+    rw (x-is s, y-is s) (s .pre .2, s .pre .3)
 
 floor-remainder-4096-requires : tie.Need-floor-remainder-4096-requires
 floor-remainder-4096-requires c κs = search needs

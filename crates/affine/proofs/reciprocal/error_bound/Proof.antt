@@ -14,7 +14,7 @@ use Rattle.integer.proofs.Machine.{operation-fits, operation-gives}
 use Rattle.affine.specs.Limits.{symbols, pairs, unitSquared, spanLimit}
 use Rattle.affine.specs.Reciprocal.{errorBound}
 use Rattle.affine.proofs.RowSize.{centre-within, linear-within, parts-within}
-use Rattle.affine.proofs.Totals.{span-of-parts, linear-totals-of-parts, pair-totals-of-parts, dropped-of-parts}
+use Rattle.affine.proofs.Totals.{linear-totals-of-parts, pair-totals-of-parts, dropped-of-parts}
 use Rattle.affine.proofs.Magnitude.{centre-product-within}
 use Rattle.affine.proofs.ErrorBound.{centreLess, error-bound-is-sum, error-bound-within}
 use Rattle.affine.proofs.reciprocal.error_bound.Statement.{statement}
@@ -82,7 +82,7 @@ at-linear c = at-absolute (c .before .before .before .before .before)
 pair-total-absolutes-requires : tie.Need-pair-total-absolutes-requires
 pair-total-absolutes-requires c κs =
     let s = at-linear (c .before .before .before .before .before .before) in
-    rw (x-is s, z-is s, span-of-parts (s .args .t1), span-of-parts (s .args .t2)) (s .pre .1, s .pre .2)
+    rw (x-is s, z-is s) (s .pre .1, s .pre .2)
 
 abbrev at-pair : tie.After-pair-total-absolutes → tie.After-linear-total-absolutes
 at-pair c = c .before .before .before .before .before .before .before
