@@ -22,7 +22,7 @@ use Rattle.integer.proofs.Absolute.{fits-within}
 use Rattle.evaluation.specs.Table.{rowWidth, rowsIn, tableAfter}
 use Rattle.evaluation.specs.Work.{rowCount, rowAnswer, worked}
 use Rattle.evaluation.proofs.FieldBits.{NaturalCast, cast-natural}
-use Rattle.evaluation.proofs.Made.{step-of-row}
+use Rattle.evaluation.proofs.Made.{rows-few, squares-few, step-of-row}
 use Rattle.evaluation.proofs.StepAnswers as answers
 use Rattle.evaluation.proofs.WorkedTable.{WorkedInto, worked-none, accepted-so-far, length-kept, rows-within, worked-on, worked-refused}
 use Rattle.evaluation.proofs.work.work_rows.Statement.{statement}
@@ -69,7 +69,7 @@ next : (c : tie.In-loop Inv-loop μ-loop) → index c < rowCount (schedule c)
 next c = omega (arith, start (c .before) .pre .1, c .loop-test .taken)
 
 owned : (c : tie.In-loop Inv-loop μ-loop) → index c < symbols
-owned c = let counts = start (c .before) .pre .0 .counts in omega (arith, next c, counts .inputs-in .to, counts .steps-in .to)
+owned c = omega (arith, next c, rows-few (schedule c) (start (c .before) .pre .0))
 
 -- the row is an input's
 is-input : (c : tie.Then1 Inv-loop μ-loop) → index (c .before) < natural (schedule (c .before) .inputs)
@@ -154,8 +154,7 @@ step-answer-requires c κs =
     let e = c .before .before in
     let l = e .before .before in
     let s = start l in
-    let counts = s .pre .0 .counts in
-    ((omega (arith, squares-cast s .is, counts .squares-in .to, counts .inputs-in .to), owned (e .before), step-passed e), rows-within (l .loop .inv .1) (so-far l))
+    ((omega (arith, squares-cast s .is, squares-few (s .args .t1) (s .pre .0)), owned (e .before), step-passed e), rows-within (l .loop .inv .1) (so-far l))
 
 status-number-requires : tie.Need-status-number-requires Inv-loop μ-loop
 status-number-requires c κs = search needs
