@@ -1,10 +1,10 @@
--- The sum of two counts fits: each is below 2 ^ 63, as an i64 that is not negative.
-use mathlib.Core.Path.{_≡_}
-use Prim.Native.Nat.{ℕ, _<_, _^_}
+-- The sum of the two counts, which fits: each is below 2 ^ 63, as an i64 that is not negative.
+use mathlib.Core.Path.{_≡_, ap₂}
+use Prim.Native.Nat.{_+_, _<_, _^_}
 use native.Mathlib.Omega.{arith}
 use lib.IntN.{ℤ, pos, negsuc}
 use mir.Syntax.{w64}
-use mir.Val.{SFits, ofZ, toZ}
+use mir.Val.{SFits}
 use mir.ValLaws.{toZ-ofZ}
 use borrow.Author.Needs.{needs}
 use Rattle.sheet.specs.Lines.{natural}
@@ -21,8 +21,11 @@ natural-below : (z : ℤ) → SFits w64 z → natural z < 2 ^ 63
 natural-below (pos n) f = f .sfits
 natural-below (negsuc n) f = omega arith
 
-count-below : (z : ℤ) (n : ℕ) → SFits w64 z → n ≡ natural (toZ w64 (ofZ w64 z)) → n < 2 ^ 63
-count-below z n f e = rw (e, toZ-ofZ w64 z f) (natural-below z f)
+inputs-counted : (c : tie.After-natural) → c .natural .result ≡ natural (c .before .before .args .schedule .inputs)
+inputs-counted c = rw (toZ-ofZ w64 _ (inputs-fit (c .before .before))) at (c .natural .ensures)
+
+steps-counted : (c : tie.After-natural2) → c .natural2 .result ≡ natural (c .before .before .before .before .args .schedule .steps)
+steps-counted c = rw (toZ-ofZ w64 _ (steps-fit (c .before .before .before .before))) at (c .natural2 .ensures)
 
 natural-requires : tie.Need-natural-requires
 natural-requires c κs = search needs
@@ -33,12 +36,12 @@ natural-requires-2 c κs = search needs
 add-result : tie.Need-add-result
 add-result c =
     let s = c .before .before .before .before in
-    let i = count-below _ _ (inputs-fit s) (c .before .before .natural .ensures) in
-    let j = count-below _ _ (steps-fit s) (c .natural2 .ensures) in
-    omega arith
+    let i = natural-below (s .args .schedule .inputs) (inputs-fit s) in
+    let j = natural-below (s .args .schedule .steps) (steps-fit s) in
+    omega (arith, inputs-counted (c .before .before), steps-counted c)
 
 returns : tie.Need-returns
-returns c = search needs
+returns c = ap₂ (λ m n. m + n) (inputs-counted (c .before .before)) (steps-counted c)
 
 pub row-count-spec : {M : Type 1} → statement M
 row-count-spec = tie.close (tie.spec natural-requires natural-requires-2 add-result returns)
