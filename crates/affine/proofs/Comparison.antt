@@ -18,7 +18,7 @@ use Rattle.affine.specs.declared.Row.{Row}
 use Rattle.affine.specs.Lists.{pick, equal, at}
 use Rattle.affine.specs.Row.{agree, same}
 
-equal-same : (x : ℤ) → equal x x ≡ true
+pub equal-same : (x : ℤ) → equal x x ≡ true
 equal-same (pos n) = eq-eqb n n refl
 equal-same (negsuc n) = eq-eqb n n refl
 

@@ -61,7 +61,7 @@ fn evaluate_again(schedule: Schedule, table: &mut [i64], turns: usize) -> Refusa
 }
 
 fn row_count(schedule: Schedule) -> usize {
-    sheet::lines::natural(schedule.inputs) + sheet::lines::natural(schedule.steps)
+    sheet::natural(schedule.inputs) + sheet::natural(schedule.steps)
 }
 
 fn evaluate_and_print(schedule: Schedule, turns: usize) {

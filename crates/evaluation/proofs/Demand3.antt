@@ -42,8 +42,8 @@ use Rattle.evaluation.proofs.Sequence.{grown, length-grown, getD-grown,
 use Rattle.evaluation.proofs.Induction.{AtFound, at-found, lt-or-ge}
 use Rattle.evaluation.proofs.WorkLaws.{nextRow, rowsUpTo, Went, went}
 use Rattle.sheet.proofs.Passed.{Passed, passed}
-use Rattle.evaluation.proofs.Made.{row, divisor-of}
-use Rattle.evaluation.proofs.RowFacts.{fact, own, own-is, alone, owned, count-small}
+use Rattle.evaluation.proofs.Made.{row, divisor-of, rows-few}
+use Rattle.evaluation.proofs.RowFacts.{fact, own, own-is, alone, owned}
 use Rattle.evaluation.proofs.RowEnclosure.{X, negℚ-cong, row-encloses, apart-nonzero}
 use Rattle.evaluation.proofs.SoundRows.{Sound, row-sound}
 use Rattle.evaluation.proofs.WorkedTable.{rowAt-tableAfter, rowsWithin-tableAfter}
@@ -138,7 +138,7 @@ module _ (c : Schedule) (pass : Passed c) (x : ℕ → Fraction) (within : Input
       (+ℚ-cong (≈-refl _) (negℚ-cong (≈-trans (scaled-form (rowOf rows n) (S n)) (path (ap (λ r. units ringOfFractions r (S n)) (row-of n h))))))))
 
   shaped : (i : ℕ) → i < count → Shaped (f i)
-  shaped i h = fact c pass x went i h .shaped
+  shaped i h = row-sound c (rowsUpTo c i) .shaped
 
   later : (i n : ℕ) → i < count → i < n → FreeOf n (f i)
   later i n h l = fact c pass x went i h .later n l
@@ -216,7 +216,7 @@ module _ (c : Schedule) (pass : Passed c) (x : ℕ → Fraction) (within : Input
       let m : suc i - 1 ≡ i = omega arith in
       let a : leb 1 (suc i) ≡ true = le-leb 1 (suc i) (omega arith) in
       let b : leb (suc i) count ≡ true = le-leb (suc i) count (omega arith) in
-      let d : leb count symbols ≡ true = le-leb count symbols (count-small c pass x went) in
+      let d : leb count symbols ≡ true = le-leb count symbols (rows-few c pass) in
       let e : leb (rowWidth * count) (length (tableAfter rows table)) ≡ true = le-leb _ _ (v .room) in
       let l : leb (span (rowAt (tableAfter rows table) (suc i - 1))) spanLimit ≡ true = rw m (le-leb _ _ (v .spans i h)) in
       simp (a, b, d, e, l)

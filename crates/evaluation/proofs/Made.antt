@@ -11,6 +11,7 @@ use lib.ListN.{length, getD}
 use Rattle.integer.specs.Fraction.{Fraction, _+ℚ_, _-ℚ_, _*ℚ_, whole, reciprocal as reciprocalOf}
 use Rattle.affine.specs.declared.Row.{Row}
 use Rattle.affine.specs.declared.Status.the-variants.{Accepted}
+use Rattle.affine.specs.Limits.{symbols, paired}
 use Rattle.affine.specs.Steps.{constantRow, inputRow, addRows, subtractRows, checked}
 use Rattle.affine.specs.Product.{product, productRow}
 use Rattle.affine.specs.Reciprocal.{reciprocal, reciprocalRow, zeroInRange, distance}
@@ -41,6 +42,13 @@ pub rowAnswer-step : (c : Schedule) (rows : List Row) (n : ℕ) → length rows 
     → rowAnswer c rows ≡ stepAnswer (natural (c .squares)) rows (stepAt c (n - natural (c .inputs)))
 unfolding rowAnswer
 rowAnswer-step c rows n e h = rw (e, le-ltb n (natural (c .inputs)) h)
+
+-- a schedule that passed has a symbol for each row, and a place for each square
+pub rows-few : (c : Schedule) → Passed c → rowCount c ≤ symbols
+rows-few c passed = omega (arith, passed .counts .inputs-in .to, passed .counts .steps-in .to)
+
+pub squares-few : (c : Schedule) → Passed c → natural (c .squares) ≤ paired
+squares-few c passed = omega (arith, passed .counts .inputs-in .to, passed .counts .squares-in .to)
 
 -- the step of a row passed 5, as the row's place asks
 pub step-of-row : (c : Schedule) → Passed c → (n : ℕ) → n < rowCount c → natural (c .inputs) ≤ n

@@ -28,9 +28,10 @@ use Rattle.sheet.specs.Lines.{natural, endsAt}
 use Rattle.sheet.proofs.Passed.{Passed}
 use Rattle.evaluation.specs.Work.{rowCount}
 use Rattle.evaluation.specs.Demand3.{InputsWithin}
-use Rattle.evaluation.proofs.WorkLaws.{Went}
-use Rattle.evaluation.proofs.Made.{Made, is-input, is-constant, is-sum, is-difference, is-product, is-reciprocal, row, value, made}
-use Rattle.evaluation.proofs.RowFacts.{fact, own, own-is, count-small, squares-few}
+use Rattle.evaluation.proofs.WorkLaws.{rowsUpTo, Went}
+use Rattle.evaluation.proofs.Made.{Made, is-input, is-constant, is-sum, is-difference, is-product, is-reciprocal, row, value, made, rows-few, squares-few}
+use Rattle.evaluation.proofs.RowFacts.{fact, own, own-is}
+use Rattle.evaluation.proofs.SoundRows.{row-sound}
 use Rattle.evaluation.proofs.FractionUnits.{scaled, scaled-inUnits, scaled-above, scaled-below}
 
 pub negℚ-cong : {u v : Fraction} → u ≈ v → negℚ u ≈ negℚ v
@@ -84,10 +85,10 @@ module _ (c : Schedule) (passed : Passed c) (x : ℕ → Fraction) (within : Inp
         (subst (λ r. X n ≈ units ringOfFractions r ε) (sym e) (subst (λ v. scaled v ≈ units ringOfFractions r ε) (sym q) w))
 
     here : n < symbols
-    here = omega (arith, count-small c passed x went)
+    here = omega (arith, rows-few c passed)
 
     shape : (i : ℕ) → i < n → Shaped (f i)
-    shape i l = fact c passed x went i (omega arith) .shaped
+    shape i l = row-sound c (rowsUpTo c i) .shaped
 
     by-origin : Made c passed x n → Bound orderedFractions (X n -ℚ units ringOfFractions (f n) ε) (whole (pos (own c passed x went n)))
     by-origin (is-input l e v) =
@@ -109,7 +110,7 @@ module _ (c : Schedule) (passed : Passed c) (x : ℕ → Fraction) (within : Inp
         enclosed e v
         (subst (λ z. Bound orderedFractions (scaled (value c passed x i *ℚ value c passed x j) -ℚ units ringOfFractions (productRow squares n (f i) (f j)) ε) (whole z))
         (sym (product-own squares n (f i) (f j) here))
-        (product-encloses orderedFractions ε unital squares (squares-few c passed x went) (f i) (f j) (shape i hi) (shape j hj) (uses i hi) (uses j hj) n off
+        (product-encloses orderedFractions ε unital squares (squares-few c passed) (f i) (f j) (shape i hi) (shape j hj) (uses i hi) (uses j hj) n off
         (scaled (value c passed x i *ℚ value c passed x j))
         (≈-trans (ring ringOfFractions 3 (λ u a b. u ⊗ (u ⊗ (a ⊗ b)) ≐ (u ⊗ a) ⊗ (u ⊗ b)) tt _ _ _) (*ℚ-cong (same i hi) (same j hj)))))
       where
@@ -119,7 +120,7 @@ module _ (c : Schedule) (passed : Passed c) (x : ℕ → Fraction) (within : Inp
         enclosed e v
         (subst (λ z. Bound orderedFractions (scaled (reciprocal (value c passed x i)) -ℚ units ringOfFractions (reciprocalRow squares n (f i) (distance (f i))) ε) (whole z))
         (sym (reciprocal-own squares n (f i) (distance (f i)) here))
-        (reciprocal-encloses orderedFractions ε unital (f i) (shape i hi) a squares (squares-few c passed x went) (fact c passed x went i (omega arith) .uses) n off
+        (reciprocal-encloses orderedFractions ε unital (f i) (shape i hi) a squares (squares-few c passed) (fact c passed x went i (omega arith) .uses) n off
         (scaled (reciprocal (value c passed x i))) inverse))
       where
         nonzero : ¬ (X i ≈ whole (pos 0))

@@ -1,4 +1,4 @@
--- What holds of every row of accepted work: its shape, its pairs, the symbols on which it depends, and its own coefficient.
+-- What holds of every row of accepted work: its pairs, the symbols on which it depends, and its own coefficient.
 use mathlib.Core.Path.{_≡_, refl, sym, ap, _∙_, subst}
 use mathlib.Core.Logic.{_≢_, _⊎_, inl, inr}
 use mathlib.Core.Bool.{true}
@@ -12,13 +12,13 @@ use Rattle.integer.specs.Fraction.{Fraction}
 use Rattle.integer.proofs.Order.{pos-≤ℤ}
 use Rattle.integer.proofs.Absolute.{natAbs-of-nonneg}
 use Rattle.affine.specs.declared.Row.{Row}
-use Rattle.affine.specs.Limits.{symbols, paired}
+use Rattle.affine.specs.Limits.{symbols}
 use Rattle.affine.specs.Lists.{at}
 use Rattle.affine.specs.Steps.{constantRow, addRows, subtractRows}
 use Rattle.affine.specs.Reciprocal.{distance}
-use Rattle.affine.proofs.Form.{Shaped, UsesOnly}
+use Rattle.affine.proofs.Form.{UsesOnly}
 use Rattle.affine.proofs.Support.{FreeOf, NoPairOf, constant-free, input-free, zip-free, product-free, reciprocal-free}
-use Rattle.affine.proofs.WellFormed.{constant-shaped, input-shaped, zip-shaped, product-shaped, reciprocal-shaped, constant-uses, input-uses, zip-uses, product-uses, reciprocal-uses, input-own, input-own-nonneg, product-own, reciprocal-own, free-no-pair, input-no-pair, product-no-pair, reciprocal-no-pair}
+use Rattle.affine.proofs.WellFormed.{constant-uses, input-uses, zip-uses, product-uses, reciprocal-uses, input-own, input-own-nonneg, product-own, reciprocal-own, free-no-pair, input-no-pair, product-no-pair, reciprocal-no-pair}
 use Rattle.sheet.specs.declared.Schedule.{Schedule}
 use Rattle.sheet.specs.Lines.{natural, endsAt}
 use Rattle.sheet.proofs.Passed.{Passed}
@@ -26,7 +26,7 @@ use Rattle.evaluation.specs.Work.{rowCount}
 use Rattle.evaluation.proofs.Sequence.{complete}
 use Rattle.evaluation.proofs.Induction.{lt-or-ge}
 use Rattle.evaluation.proofs.WorkLaws.{Went}
-use Rattle.evaluation.proofs.Made.{Made, is-input, is-constant, is-sum, is-difference, is-product, is-reciprocal, row, made}
+use Rattle.evaluation.proofs.Made.{Made, is-input, is-constant, is-sum, is-difference, is-product, is-reciprocal, row, made, rows-few}
 
 -- how sums and differences are made, number by number
 abbrev plus : ℤ → ℤ → ℤ
@@ -42,12 +42,6 @@ module _ (c : Schedule) (passed : Passed c) (x : ℕ → Fraction) (went : Went 
   abbrev count : ℕ
   count = rowCount c
 
-  pub count-small : count ≤ symbols
-  count-small = omega (arith, passed .counts .inputs-in .to, passed .counts .steps-in .to)
-
-  pub squares-few : squares ≤ paired
-  squares-few = omega (arith, passed .counts .inputs-in .to, passed .counts .squares-in .to)
-
   -- a row of the sheet, what it was made of
   abbrev f : ℕ → Row
   f n = row c passed x n
@@ -55,19 +49,17 @@ module _ (c : Schedule) (passed : Passed c) (x : ℕ → Fraction) (went : Went 
   origin : (n : ℕ) → n < count → Made c passed x n
   origin n h = made c passed x went n h
 
-  -- ---- shape and pairs
+  -- ---- pairs, and symbols of later rows
   pub record Fact (n : ℕ) : Type 0 where
-    pub shaped : Shaped (f n)
     pub uses : UsesOnly squares (f n)
     pub later : (m : ℕ) → n < m → FreeOf m (f n)
 
   apart : {n m : ℕ} → n < m → m ≢ n
   apart {n} {m} l e = absurd (let h : n < n = subst (λ k. n < k) e l in omega arith)
 
-  fact-of : (n : ℕ) {r : Row} → f n ≡ r → Shaped r → UsesOnly squares r → ((m : ℕ) → n < m → FreeOf m r) → Fact n
-  fact-of n e s u l =
+  fact-of : (n : ℕ) {r : Row} → f n ≡ r → UsesOnly squares r → ((m : ℕ) → n < m → FreeOf m r) → Fact n
+  fact-of n e u l =
       record {
-        shaped = subst Shaped (sym e) s;
         uses = subst (UsesOnly squares) (sym e) u;
         later = λ m h. subst (FreeOf m) (sym e) (l m h);
       }
@@ -77,20 +69,20 @@ module _ (c : Schedule) (passed : Passed c) (x : ℕ → Fraction) (went : Went 
     where
       by-origin : (n : ℕ) → n < count → ((i : ℕ) → i < n → i < count → Fact i) → Made c passed x n → Fact n
       by-origin n h ih (is-input l e v) =
-          fact-of n e (input-shaped n (endsAt c n .low) (endsAt c n .high)) (input-uses squares n (endsAt c n .low) (endsAt c n .high))
+          fact-of n e (input-uses squares n (endsAt c n .low) (endsAt c n .high))
           (λ m k. input-free m n (endsAt c n .low) (endsAt c n .high) (apart k))
-      by-origin n h ih (is-constant l v e q) = fact-of n e (constant-shaped v) (constant-uses squares v) (λ m k. constant-free m v)
+      by-origin n h ih (is-constant l v e q) = fact-of n e (constant-uses squares v) (λ m k. constant-free m v)
       by-origin n h ih (is-sum l i j hi hj e v) =
-          fact-of n e (zip-shaped plus (f i) (f j)) (zip-uses squares plus refl (f i) (f j) (ih i hi (omega arith) .uses) (ih j hj (omega arith) .uses))
+          fact-of n e (zip-uses squares plus refl (f i) (f j) (ih i hi (omega arith) .uses) (ih j hj (omega arith) .uses))
           (λ m k. zip-free m plus refl (f i) (f j) (ih i hi (omega arith) .later m (omega arith)) (ih j hj (omega arith) .later m (omega arith)))
       by-origin n h ih (is-difference l i j hi hj e v) =
-          fact-of n e (zip-shaped less (f i) (f j)) (zip-uses squares less refl (f i) (f j) (ih i hi (omega arith) .uses) (ih j hj (omega arith) .uses))
+          fact-of n e (zip-uses squares less refl (f i) (f j) (ih i hi (omega arith) .uses) (ih j hj (omega arith) .uses))
           (λ m k. zip-free m less refl (f i) (f j) (ih i hi (omega arith) .later m (omega arith)) (ih j hj (omega arith) .later m (omega arith)))
       by-origin n h ih (is-product l i j hi hj e v) =
-          fact-of n e (product-shaped squares n (f i) (f j)) (product-uses squares n (f i) (f j))
+          fact-of n e (product-uses squares n (f i) (f j))
           (λ m k. product-free m squares n (f i) (f j) (apart k) (ih i hi (omega arith) .later m (omega arith)) (ih j hj (omega arith) .later m (omega arith)))
       by-origin n h ih (is-reciprocal l i hi a e v) =
-          fact-of n e (reciprocal-shaped squares n (f i) (distance (f i))) (reciprocal-uses squares n (f i) (distance (f i)))
+          fact-of n e (reciprocal-uses squares n (f i) (distance (f i)))
           (λ m k. reciprocal-free m squares n (f i) (distance (f i)) (apart k) (ih i hi (omega arith) .later m (omega arith)))
 
   -- an earlier row does not depend on the symbol of a later one
@@ -108,7 +100,7 @@ module _ (c : Schedule) (passed : Passed c) (x : ℕ → Fraction) (went : Went 
   own-nonneg n h = by-origin (origin n h)
     where
       here : n < symbols
-      here = omega (arith, count-small)
+      here = omega (arith, rows-few c passed)
 
       natural-own : {r : Row} {k : ℕ} → f n ≡ r → at (r .linear) n ≡ pos k → pos 0 ≤ℤ at (f n .linear) n
       natural-own e q = subst (λ z. pos 0 ≤ℤ z) (sym (ap (λ r. at (r .linear) n) e ∙ q)) (pos-≤ℤ (omega arith))

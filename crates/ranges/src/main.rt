@@ -109,7 +109,7 @@ fn print_listing(table: &[i64], count: usize) {
 fn row_count(schedule: Schedule) -> usize
     ensures { λ r. ⌜ r ≡ rowCount schedule ⌝ }
 {
-    sheet::lines::natural(schedule.inputs) + sheet::lines::natural(schedule.steps)
+    sheet::natural(schedule.inputs) + sheet::natural(schedule.steps)
 }
 
 fn evaluate_and_print(schedule: Schedule) {

@@ -6,10 +6,13 @@ ghost use Rattle.sheet.specs.Lines.{zeroSchedule};
 
 mod number; // number.rt: a number field, read and written
 mod fields; // fields.rt: a line of fields, read and written
-pub mod lines; // lines.rt: what each line of a sheet holds
+mod lines; // lines.rt: what each line of a sheet holds
 mod tests; // tests.rt: the tests 3, 4 and 5 of a line's numbers
 mod reader; // reader.rt: a sheet, line by line
 mod writer; // writer.rt: a schedule tested and written, line by line
+
+// What a count is as a natural number, for the callers of `test`.
+pub use lines::natural;
 
 // Limits of document 01; specs/Limits.antt has the same names for definitions and laws.
 pub const MAX_INPUTS: usize = 6;

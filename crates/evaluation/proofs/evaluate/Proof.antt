@@ -14,10 +14,10 @@ use Rattle.evaluation.proofs.evaluate.Tie as tie
 
 -- the test as the code has it, refused or passed
 refused : (c : tie.Then1) → testOf (c .before .before .before .args .schedule) .number ≡ 0 → ⊥
-refused c z = c .if1 .taken (ap (λ r. r .number) (c .before .before .test .ensures) ∙ z)
+refused c z = omega (arith, ap (λ r. r .number) (c .before .before .test .ensures), c .if1 .taken)
 
 tested : (c : tie.Else1) → testOf (c .before .before .before .args .schedule) .number ≡ 0
-tested c = sym (ap (λ r. r .number) (c .before .before .test .ensures)) ∙ c .if1 .left
+tested c = omega (arith, ap (λ r. r .number) (c .before .before .test .ensures), c .if1 .left)
 
 rows-are : (c : tie.After-row-count) → c .row-count .result ≡ rowCount (c .before .before .before .before .args .schedule)
 rows-are c = c .row-count .ensures

@@ -13,7 +13,7 @@ use Rattle.sheet.specs.Limits.{maxSteps, endLimit}
 use Rattle.sheet.proofs.Passing.{EndsPassed, StepPassed}
 use Rattle.integer.proofs.Absolute.{fits-within}
 use Rattle.evaluation.proofs.FieldBits.{NaturalCast, cast-natural}
-use Rattle.evaluation.proofs.Made.{step-of-row}
+use Rattle.evaluation.proofs.Made.{rows-few, squares-few, step-of-row}
 use Rattle.evaluation.proofs.StepAnswers as answers
 use borrow.Author.Needs.{needs}
 use Rattle.evaluation.proofs.steps.row_answer.Statement.{statement}
@@ -30,7 +30,7 @@ squares-cast c = cast-natural (c .pre .0 .0 .counts .squares-in) (counts-fit c .
 
 -- a row has its symbol
 owned : (c : tie.Start) → c .args .i < symbols
-owned c = let counts = c .pre .0 .0 .counts in omega (arith, c .pre .0 .1, counts .inputs-in .to, counts .steps-in .to)
+owned c = omega (arith, c .pre .0 .1, rows-few (c .args .t2) (c .pre .0 .0))
 
 -- the row is an input's
 is-input : (c : tie.Then1) → c .before .before .args .i < natural (c .before .before .args .t2 .inputs)
@@ -102,8 +102,7 @@ step-answer-requires : tie.Need-step-answer-requires
 step-answer-requires c κs =
     let e = c .before .before in
     let s = e .before .before in
-    let counts = s .pre .0 .0 .counts in
-    ((omega (arith, squares-cast s .is, counts .squares-in .to, counts .inputs-in .to), owned s, step-passed e), s .pre .1)
+    ((omega (arith, squares-cast s .is, squares-few (s .args .t2) (s .pre .0 .0)), owned s, step-passed e), s .pre .1)
 
 returns-2 : tie.Need-returns-2
 returns-2 c =

@@ -4,6 +4,7 @@ use Prim.Native.Nat.{ℕ, _+_, _-_, _*_, _≤_, _<_}
 use native.Mathlib.Omega.{arith}
 use borrow.Author.Needs.{needs}
 use lib.ListN.{length}
+use Rattle.affine.specs.Steps.{number}
 use Rattle.sheet.specs.Causes.{refusal, accepted}
 use Rattle.evaluation.specs.Table.{rowWidth, tableAfter}
 use Rattle.evaluation.specs.Work.{rowCount, worked}
@@ -21,6 +22,13 @@ abbrev μ-loop : tie.MeasureT-loop
 room : (c : tie.Start Inv-loop μ-loop) (n : ℕ) → n ≤ c .args .rows → rowWidth * n ≤ length (c .args .table .now)
 room c n h = omega (arith, c .pre .2)
 
+-- room for the rows so far, and a table as long as the one lent
+so-far : (c : tie.At-loop Inv-loop μ-loop) → rowWidth * c .loop .i ≤ length (c .before .args .table .now)
+so-far c = room (c .before) (c .loop .i) (c .loop .inv .0)
+
+kept : (c : tie.At-loop Inv-loop μ-loop) → length (c .loop .table) ≡ length (c .before .args .table .now)
+kept c = length-kept (c .loop .inv .1) (so-far c)
+
 loop-holds : tie.Need-loop-holds Inv-loop μ-loop
 loop-holds c = (omega arith, worked-none (c .args .c) (c .args .table .now))
 
@@ -29,7 +37,7 @@ row-answer-requires c κs =
     let l = c .before .before in
     let s = l .before in
     let next : l .loop .i < rowCount (s .args .c) = omega (arith, s .pre .1, c .before .loop-test .taken) in
-    ((s .pre .0, next), rows-within (l .loop .inv .1) (room s (l .loop .i) (l .loop .inv .0)))
+    ((s .pre .0, next), rows-within (l .loop .inv .1) (so-far l))
 
 status-number-requires : tie.Need-status-number-requires Inv-loop μ-loop
 status-number-requires c κs = search needs
@@ -38,9 +46,7 @@ add-t12 : tie.Need-add-t12 Inv-loop μ-loop
 add-t12 c = search needs
 
 same-length : tie.Need-same-length Inv-loop μ-loop
-same-length c =
-    let l = c .before .before .before .before .before in
-    length-kept (l .loop .inv .1) (room (l .before) (l .loop .i) (l .loop .inv .0))
+same-length c = kept (c .before .before .before .before .before)
 
 returns : tie.Need-returns Inv-loop μ-loop
 returns c =
@@ -48,7 +54,7 @@ returns c =
     let s = l .before in
     let e = c .before .status-number .ensures in
     let a = c .before .before .row-answer .ensures in
-    let q = worked-refused (l .loop .inv .1) a (s .args .rows) (c .before .before .before .before .loop-test .taken) (λ z. c .if1 .taken (e ∙ z)) in (
+    let q = worked-refused (l .loop .inv .1) a (s .args .rows) (c .before .before .before .before .loop-test .taken) (λ z. omega (arith, e, c .if1 .taken)) in (
       ap (λ k. refusal k (l .loop .i + 1)) e ∙ ap (λ v. v .refusal) (sym q),
       l .loop .inv .1 .left ∙ ap (λ v. tableAfter (v .rows) (s .args .table .now)) (sym q),
     )
@@ -56,10 +62,8 @@ returns c =
 put-row-requires : tie.Need-put-row-requires Inv-loop μ-loop
 put-row-requires c κs =
     let l = c .before .before .before .before .before .before .before in
-    let s = l .before in
-    let kept = length-kept (l .loop .inv .1) (room s (l .loop .i) (l .loop .inv .0)) in
-    let taken = c .before .before .before .before .before .before .loop-test .taken in
-    omega (arith, kept, room s (l .loop .i + 1) (omega (arith, taken)))
+    let more : l .loop .i + 1 ≤ l .before .args .rows = omega (arith, c .before .before .before .before .before .before .loop-test .taken) in
+    omega (arith, kept l, room (l .before) (l .loop .i + 1) more)
 
 add-i : tie.Need-add-i Inv-loop μ-loop
 add-i c = search needs
@@ -71,13 +75,13 @@ loop-again : tie.Need-loop-again Inv-loop μ-loop
 loop-again c =
     let o = c .before .before .before .before in
     let l = o .before .before .before .before .before in
-    let number-zero = sym (o .before .status-number .ensures) ∙ o .if1 .left in
-    (omega (arith, o .before .before .before .before .loop-test .taken), worked-on (l .loop .inv .1) (o .before .before .row-answer .ensures) number-zero (c .before .put-row .ensures))
+    let number-zero : number (o .before .before .row-answer .result .status) ≡ 0 = omega (arith, o .before .status-number .ensures, o .if1 .left) in (
+      omega (arith, o .before .before .before .before .loop-test .taken),
+      worked-on (l .loop .inv .1) (o .before .before .row-answer .ensures) number-zero (c .before .put-row .ensures),
+    )
 
 same-length-2 : tie.Need-same-length-2 Inv-loop μ-loop
-same-length-2 c =
-    let l = c .before in
-    length-kept (l .loop .inv .1) (room (l .before) (l .loop .i) (l .loop .inv .0))
+same-length-2 c = kept (c .before)
 
 returns-2 : tie.Need-returns-2 Inv-loop μ-loop
 returns-2 c =

@@ -23,6 +23,7 @@ element-set-from-t c = search needs
 returns : tie.Need-returns
 returns c = search needs
 
+-- the length of the array comes from what is known of a schedule that is passed: its entry for that field
 returns-2 : tie.Need-returns-2
 returns-2 c =
     let s = c .before in

@@ -1,0 +1,175 @@
+//! Rows: affine forms with square terms, in whole numbers of 1/4096.
+const SYMBOLS: usize = 30;
+const PAIRS: usize = 21;
+const SPAN_LIMIT: u64 = 1 << 30;
+const N: i64 = 4096 * 4096;
+
+const ORDER: [(usize, usize); PAIRS] = [
+    (0, 0), (0, 1), (0, 2), (0, 3), (0, 4), (0, 5),
+    (1, 1), (1, 2), (1, 3), (1, 4), (1, 5),
+    (2, 2), (2, 3), (2, 4), (2, 5),
+    (3, 3), (3, 4), (3, 5),
+    (4, 4), (4, 5),
+    (5, 5),
+];
+
+#[derive(Clone, Copy)]
+pub struct Row {
+    pub centre: i64,
+    pub linear: [i64; SYMBOLS],
+    pub pair: [i64; PAIRS],
+}
+
+fn absolutes(numbers: &[i64]) -> u64 {
+    numbers.iter().map(|v| v.unsigned_abs()).sum()
+}
+
+fn floor_quotient(a: i64, d: i64) -> i64 {
+    let q = a / d;
+    if a % d != 0 && (a % d < 0) != (d < 0) { q - 1 } else { q }
+}
+
+impl Row {
+    pub const ZERO: Row = Row { centre: 0, linear: [0; SYMBOLS], pair: [0; PAIRS] };
+
+    /// The sum of all absolutes but the centre's.
+    fn radius(&self) -> u64 {
+        absolutes(&self.linear) + absolutes(&self.pair)
+    }
+
+    /// The row, or 6. No operation makes a number so large that this sum could wrap.
+    fn checked(self) -> Result<Row, u64> {
+        if self.centre.unsigned_abs() + self.radius() <= SPAN_LIMIT { Ok(self) } else { Err(6) }
+    }
+
+    pub fn range(&self) -> (i64, i64) {
+        let linear = absolutes(&self.linear) as i64;
+        let mut low = self.centre - linear;
+        let mut high = self.centre + linear;
+        for (&(i, j), &p) in ORDER.iter().zip(&self.pair) {
+            if i != j {
+                low -= p.abs();
+                high += p.abs();
+            } else if p < 0 {
+                low += p;
+            } else {
+                high += p;
+            }
+        }
+        (low, high)
+    }
+}
+
+pub fn constant(value: i64) -> Result<Row, u64> {
+    Row { centre: value, ..Row::ZERO }.checked()
+}
+
+pub fn input(own: usize, low: i64, high: i64) -> Result<Row, u64> {
+    let mut row = Row { centre: (low + high) >> 1, ..Row::ZERO };
+    row.linear[own] = high - row.centre;
+    row.checked()
+}
+
+pub fn add(x: &Row, y: &Row) -> Result<Row, u64> {
+    let mut row = *x;
+    row.centre += y.centre;
+    for (v, w) in row.linear.iter_mut().zip(&y.linear) {
+        *v += w;
+    }
+    for (v, w) in row.pair.iter_mut().zip(&y.pair) {
+        *v += w;
+    }
+    row.checked()
+}
+
+pub fn subtract(x: &Row, y: &Row) -> Result<Row, u64> {
+    let mut row = *x;
+    row.centre -= y.centre;
+    for (v, w) in row.linear.iter_mut().zip(&y.linear) {
+        *v -= w;
+    }
+    for (v, w) in row.pair.iter_mut().zip(&y.pair) {
+        *v -= w;
+    }
+    row.checked()
+}
+
+fn linear_total(x: &Row, y: &Row, i: usize) -> i64 {
+    x.centre * y.linear[i] + y.centre * x.linear[i]
+}
+
+/// The products of linear coefficients that meet in a pair.
+fn meeting(a: &[i64; SYMBOLS], b: &[i64; SYMBOLS], i: usize, j: usize) -> i64 {
+    if i == j { a[i] * b[i] } else { a[i] * b[j] + a[j] * b[i] }
+}
+
+fn pair_total(x: &Row, y: &Row, k: usize, i: usize, j: usize) -> i64 {
+    x.centre * y.pair[k] + y.centre * x.pair[k] + meeting(&x.linear, &y.linear, i, j)
+}
+
+fn dropped(x: &Row, y: &Row, squares: usize) -> u64 {
+    x.radius() * y.radius() - absolutes(&x.linear[..squares]) * absolutes(&y.linear[..squares])
+}
+
+pub fn multiply(x: &Row, y: &Row, squares: usize, own: usize) -> Result<Row, u64> {
+    let mut row = Row::ZERO;
+    let t = x.centre * y.centre;
+    row.centre = t >> 12;
+    let mut remainders = (t & 4095) as u64;
+    for i in 0..SYMBOLS {
+        let t = linear_total(x, y, i);
+        row.linear[i] = t >> 12;
+        remainders += (t & 4095) as u64;
+    }
+    for (k, &(i, j)) in ORDER.iter().enumerate() {
+        if j < squares {
+            let t = pair_total(x, y, k, i, j);
+            row.pair[k] = t >> 12;
+            remainders += (t & 4095) as u64;
+        }
+    }
+    row.linear[own] = (dropped(x, y, squares) + remainders).div_ceil(4096) as i64;
+    row.checked()
+}
+
+fn candidate(x: &Row, squares: usize) -> Row {
+    let c = x.centre;
+    let mut z = Row { centre: floor_quotient(N, c), ..Row::ZERO };
+    for i in 0..SYMBOLS {
+        z.linear[i] = floor_quotient(-N * x.linear[i], c * c);
+    }
+    for (k, &(i, j)) in ORDER.iter().enumerate() {
+        if j < squares {
+            let met = meeting(&z.linear, &x.linear, i, j);
+            z.pair[k] = floor_quotient(-N * x.pair[k], c * c) + floor_quotient(-met, c);
+        }
+    }
+    z
+}
+
+fn error_bound(x: &Row, z: &Row, squares: usize) -> u64 {
+    let mut bound = (x.centre * z.centre - N).unsigned_abs() + dropped(x, z, squares);
+    for i in 0..SYMBOLS {
+        bound += linear_total(x, z, i).unsigned_abs();
+    }
+    for (k, &(i, j)) in ORDER.iter().enumerate() {
+        if j < squares {
+            bound += pair_total(x, z, k, i, j).unsigned_abs();
+        }
+    }
+    bound
+}
+
+pub fn reciprocal(x: &Row, squares: usize, own: usize) -> Result<Row, u64> {
+    let (low, high) = x.range();
+    let distance = if low > 0 {
+        low.unsigned_abs()
+    } else if high < 0 {
+        high.unsigned_abs()
+    } else {
+        return Err(7);
+    };
+    let mut row = candidate(x, squares).checked()?;
+    row.linear[own] = error_bound(x, &row, squares).div_ceil(distance) as i64;
+    row.checked()
+}
