@@ -4,7 +4,6 @@ use libc::STDOUT_FILENO;
 use sheet::Refusal;
 use sheet::Schedule;
 ghost use mathlib.Core.Path.{_≡_};
-ghost use Rattle.evaluation.specs.Work.{rowCount};
 ghost use Rattle.ranges.specs.Listing.{own, firstSame, lineOf};
 
 // One byte more than a sheet may have: that a sheet is longer is noticed, and what lies behind is not read.
@@ -106,12 +105,6 @@ fn print_listing(table: &[i64], count: usize) {
     }
 }
 
-fn row_count(schedule: Schedule) -> usize
-    ensures { λ r. ⌜ r ≡ rowCount schedule ⌝ }
-{
-    sheet::natural(schedule.inputs) + sheet::natural(schedule.steps)
-}
-
 fn evaluate_and_print(schedule: Schedule) {
     let mut table = [0i64; TABLE_NUMBERS];
     let refusal = evaluation::evaluate(schedule, &mut table);
@@ -119,7 +112,7 @@ fn evaluate_and_print(schedule: Schedule) {
         print_refusal(refusal);
         return;
     }
-    print_listing(&table, row_count(schedule));
+    print_listing(&table, evaluation::row_count(schedule));
 }
 
 fn read_and_print(bytes: &[u8]) {
