@@ -11,6 +11,32 @@ import sheet
 
 TABLE_LENGTH = 1_560
 
+# "This one is (x + 1)² - 2x"; "and it prints"
+EXAMPLE_SHEET = b"""\
+inputs squares steps
+1 1 6
+low high
+-512 512
+step first second value
+1 0 0 4096
+2 1 2 0
+4 3 3 0
+1 0 0 8192
+4 5 1 0
+3 4 6 0
+"""
+
+EXAMPLE_LISTING = b"""\
+row low high own same
+1 -512 512 512 0
+2 4096 4096 0 0
+3 3584 4608 0 0
+4 3072 5184 0 0
+5 8192 8192 0 0
+6 -1024 1024 0 0
+7 4096 4160 0 0
+"""
+
 
 def refusal_text(number: int, place: int) -> bytes:
     """"For a refusal it prints `refused place` and one line with both."."""
@@ -46,6 +72,11 @@ def listing(data: bytes) -> bytes:
     count = answer.schedule.counts.inputs + answer.schedule.counts.steps
     lines = [listing_line(table, count, row) for row in range(1, count + 1)]
     return b"row low high own same\n" + b"".join(lines)
+
+
+def files() -> dict[str, bytes]:
+    """The files of the crate `ranges`, by their paths in it: 01's example."""
+    return {"stdin": EXAMPLE_SHEET, "stdout": EXAMPLE_LISTING}
 
 
 assert TABLE_LENGTH == rows.NUMBERS * evaluation.ROWS_LIMIT

@@ -11,6 +11,7 @@ import sys
 
 import bench_evaluate
 import library_calls
+import listing
 import row_cases
 import sheet_cases
 import stored
@@ -18,6 +19,7 @@ import stored
 MAKERS = {
     "sheet_cases": sheet_cases.files,
     "row_examples": row_cases.files,
+    "ranges": listing.files,
     "library_calls": library_calls.files,
     "bench_evaluate": bench_evaluate.files,
 }

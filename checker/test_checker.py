@@ -23,31 +23,6 @@ import sheet_cases
 import spoilt
 import stored
 
-EXAMPLE_SHEET = b"""\
-inputs squares steps
-1 1 6
-low high
--512 512
-step first second value
-1 0 0 4096
-2 1 2 0
-4 3 3 0
-1 0 0 8192
-4 5 1 0
-3 4 6 0
-"""
-
-EXAMPLE_LISTING = b"""\
-row low high own same
-1 -512 512 512 0
-2 4096 4096 0 0
-3 3584 4608 0 0
-4 3072 5184 0 0
-5 8192 8192 0 0
-6 -1024 1024 0 0
-7 4096 4160 0 0
-"""
-
 
 def last_row(squares, ends, steps):
     """The last row of the sheet with these ends and steps, or its refusal (number, place)."""
@@ -141,7 +116,7 @@ class ProvedExamples(unittest.TestCase):
         self.assertEqual(of_two_constants(4, 268_435_456, 16_385), (6, 4))
 
     def test_the_listing_of_01(self):
-        self.assertEqual(listing.listing(EXAMPLE_SHEET), EXAMPLE_LISTING)
+        self.assertEqual(listing.listing(listing.EXAMPLE_SHEET), listing.EXAMPLE_LISTING)
 
 
 class Traps(unittest.TestCase):
@@ -155,7 +130,7 @@ class Traps(unittest.TestCase):
 
     def test_counting_squares_from_minus_1(self):
         with spoilt.spoilt("low with squares from -1"):
-            self.assertEqual(listing.listing(EXAMPLE_SHEET).split(b"\n")[7], b"7 4032 4160 0 0")
+            self.assertEqual(listing.listing(listing.EXAMPLE_SHEET).split(b"\n")[7], b"7 4032 4160 0 0")
 
     def test_one_symbol_for_all_roundings(self):
         steps = [*constant_steps(1, 2), (4, 2, 2, 0), (4, 2, 3, 0), (3, 5, 4, 0)]
@@ -321,8 +296,8 @@ class Reading(unittest.TestCase):
                 self.assertEqual(sheet.read(bytes(out[:-3])).schedule, answer.schedule)
 
     def test_writer_needs_room(self):
-        handed = sheet.read(EXAMPLE_SHEET).schedule
-        out = bytearray(len(EXAMPLE_SHEET) - 1)
+        handed = sheet.read(listing.EXAMPLE_SHEET).schedule
+        out = bytearray(len(listing.EXAMPLE_SHEET) - 1)
         self.assertEqual(sheet.write(handed, out), (8, 0, 0))
         self.assertEqual(out, bytes(len(out)))
 
@@ -333,7 +308,7 @@ class Reading(unittest.TestCase):
             self.assertEqual(evaluation.evaluate(handed, [0] * 1560), (3, 2))
 
     def test_what_lies_beyond_the_counts_changes_nothing(self):
-        handed = sheet.read(EXAMPLE_SHEET).schedule
+        handed = sheet.read(listing.EXAMPLE_SHEET).schedule
         filled = handed._replace(
             ends=handed.ends[:1] + (sheet.Ends(2**63 - 1, -(2**63)),) * 5,
             steps=handed.steps[:6] + (sheet.Step(9, 2**63 - 1, -(2**63), 5),) * 18,
@@ -341,14 +316,14 @@ class Reading(unittest.TestCase):
         tables, outs = ([7] * 400, [7] * 400), (bytearray(300), bytearray(300))
         for schedule, table, out in zip((handed, filled), tables, outs):
             self.assertEqual(evaluation.evaluate(schedule, table), (0, 0))
-            self.assertEqual(sheet.write(schedule, out).length, len(EXAMPLE_SHEET))
+            self.assertEqual(sheet.write(schedule, out).length, len(listing.EXAMPLE_SHEET))
         self.assertEqual(*tables)
         self.assertEqual(*outs)
 
 
 class Evaluating(unittest.TestCase):
     def test_writes_its_rows_and_no_others(self):
-        handed = sheet.read(EXAMPLE_SHEET).schedule
+        handed = sheet.read(listing.EXAMPLE_SHEET).schedule
         table = [-9] * (52 * 7 + 5)
         self.assertEqual(evaluation.evaluate(handed, table), (0, 0))
         self.assertEqual(table[52 * 7 :], [-9] * 5)
@@ -356,7 +331,7 @@ class Evaluating(unittest.TestCase):
 
     def test_needs_52_numbers_for_each_row(self):
         table = [-9] * (52 * 7 - 1)
-        self.assertEqual(evaluation.evaluate(sheet.read(EXAMPLE_SHEET).schedule, table), (8, 0))
+        self.assertEqual(evaluation.evaluate(sheet.read(listing.EXAMPLE_SHEET).schedule, table), (8, 0))
         self.assertEqual(table, [-9] * len(table))
 
     def test_after_a_refusal_the_rows_before_are_written(self):

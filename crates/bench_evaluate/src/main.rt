@@ -60,10 +60,6 @@ fn evaluate_again(schedule: Schedule, table: &mut [i64], turns: usize) -> Refusa
     refusal
 }
 
-fn row_count(schedule: Schedule) -> usize {
-    sheet::natural(schedule.inputs) + sheet::natural(schedule.steps)
-}
-
 fn evaluate_and_print(schedule: Schedule, turns: usize) {
     let mut table = [0i64; TABLE_NUMBERS];
     let refusal = evaluate_again(schedule, &mut table, turns);
@@ -71,7 +67,7 @@ fn evaluate_and_print(schedule: Schedule, turns: usize) {
         print_refusal(refusal);
         return;
     }
-    let last = row_count(schedule);
+    let last = evaluation::row_count(schedule);
     print_range(turns, evaluation::range(&table, last, last));
 }
 

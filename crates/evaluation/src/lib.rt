@@ -6,6 +6,8 @@ pub mod work; // work.rt: all rows, one after another
 
 use sheet::Refusal;
 use sheet::Schedule;
+// How many rows a schedule has, for those who ask about them.
+pub use work::row_count;
 ghost use mathlib.Core.Path.{_≡_};
 ghost use Rattle.evaluation.specs.Table.{tableAfter};
 ghost use Rattle.evaluation.specs.Work.{evaluated};
@@ -33,7 +35,7 @@ pub fn evaluate(schedule: Schedule, table: &mut [i64]) -> Refusal
     if tested.number != 0 {
         return tested;
     }
-    let rows = work::row_count(schedule);
+    let rows = row_count(schedule);
     if table.len() < table::ROW_WIDTH * rows {
         return Refusal {
             number: 8,

@@ -23,11 +23,11 @@ fn status_number(s: Status) -> u64
     }
 }
 
+// How many rows a schedule has: any schedule.
 pub fn row_count(c: Schedule) -> usize
-    requires { ⌜ Passed c ⌝ }
     ensures { λ r. ⌜ r ≡ rowCount c ⌝ }
 {
-    c.inputs as usize + c.steps as usize
+    sheet::natural(c.inputs) + sheet::natural(c.steps)
 }
 
 pub fn work_rows(c: Schedule, table: &mut [i64], rows: usize) -> Refusal

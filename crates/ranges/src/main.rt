@@ -3,11 +3,22 @@ use libc::STDIN_FILENO;
 use libc::STDOUT_FILENO;
 use sheet::Refusal;
 use sheet::Schedule;
+ghost use mathlib.Core.Path.{_≡_};
+ghost use Rattle.ranges.specs.Listing.{own, firstSame, lineOf};
 
 // One byte more than a sheet may have: that a sheet is longer is noticed, and what lies behind is not read.
 const ROOM: usize = sheet::MAX_BYTES + 1;
 // 52 numbers for each of 30 rows.
 const TABLE_NUMBERS: usize = 1560;
+
+// What is printed of a row.
+struct Line {
+    row: usize,
+    low: i64,
+    high: i64,
+    own: i64,
+    same: usize,
+}
 
 fn print_space() {
     io::write_all(STDOUT_FILENO, b" ");
@@ -36,14 +47,18 @@ fn print_refusal(refusal: Refusal) {
     print_line_end();
 }
 
-// A row's own coefficient, that of the symbol with the row's number: it stands behind the centre and the symbols before it.
-fn own_coefficient(table: &[i64], count: usize, row: usize) -> i64 {
+// A row's own coefficient: it stands behind the centre and the coefficients of the symbols before it.
+fn own_coefficient(table: &[i64], count: usize, row: usize) -> i64
+    ensures { λ r. ⌜ r ≡ own (now (table .entry)) count row ⌝ }
+{
     let numbers = evaluation::row(table, count, row);
     if row < numbers.len() { numbers[row] } else { 0 }
 }
 
 // The first earlier row with identical numbers, or 0.
-fn first_same(table: &[i64], count: usize, row: usize) -> usize {
+fn first_same(table: &[i64], count: usize, row: usize) -> usize
+    ensures { λ r. ⌜ r ≡ firstSame (now (table .entry)) count row ⌝ }
+{
     let mut earlier: usize = 1;
     while earlier < row {
         let answer = evaluation::same(table, count, earlier, row);
@@ -55,17 +70,29 @@ fn first_same(table: &[i64], count: usize, row: usize) -> usize {
     0
 }
 
-fn print_row(table: &[i64], count: usize, row: usize) {
+fn line_of(table: &[i64], count: usize, row: usize) -> Line
+    ensures { λ r. ⌜ r ≡ lineOf (now (table .entry)) count row ⌝ }
+{
     let range = evaluation::range(table, count, row);
-    print_count(row);
+    Line {
+        row,
+        low: range.low,
+        high: range.high,
+        own: own_coefficient(table, count, row),
+        same: first_same(table, count, row),
+    }
+}
+
+fn print_line(line: Line) {
+    print_count(line.row);
     print_space();
-    print_number(range.low);
+    print_number(line.low);
     print_space();
-    print_number(range.high);
+    print_number(line.high);
     print_space();
-    print_number(own_coefficient(table, count, row));
+    print_number(line.own);
     print_space();
-    print_count(first_same(table, count, row));
+    print_count(line.same);
     print_line_end();
 }
 
@@ -74,12 +101,8 @@ fn print_listing(table: &[i64], count: usize) {
     let mut row: usize = 0;
     while row < count {
         row += 1;
-        print_row(table, count, row);
+        print_line(line_of(table, count, row));
     }
-}
-
-fn row_count(schedule: Schedule) -> usize {
-    sheet::natural(schedule.inputs) + sheet::natural(schedule.steps)
 }
 
 fn evaluate_and_print(schedule: Schedule) {
@@ -89,7 +112,7 @@ fn evaluate_and_print(schedule: Schedule) {
         print_refusal(refusal);
         return;
     }
-    print_listing(&table, row_count(schedule));
+    print_listing(&table, evaluation::row_count(schedule));
 }
 
 fn read_and_print(bytes: &[u8]) {

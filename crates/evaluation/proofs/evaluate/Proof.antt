@@ -33,7 +33,7 @@ returns c =
     (c .before .before .test .ensures ∙ ap (λ v. v .refusal) (sym q), sym (nothing-put t) ∙ ap (λ v. tableAfter (v .rows) t) (sym q))
 
 row-count-requires : tie.Need-row-count-requires
-row-count-requires c κs = passed (c .before .before .before .args .schedule) (tested c)
+row-count-requires c κs = search needs
 
 mul-if2 : tie.Need-mul-if2
 mul-if2 c =

@@ -1,23 +1,36 @@
--- `first_same` is safe and ends: the loop counts to the row.
-use Prim.Native.Nat.{_-_}
+-- `first_same` meets its contract. The loop keeps: the first from row 1 on is the first from here on.
+use mathlib.Core.Path.{_≡_, refl, sym, ap, _∙_}
+use Prim.Native.Nat.{_≤_, _-_}
+use native.Mathlib.Omega.{arith}
 use borrow.Author.Needs.{needs}
+use Rattle.evaluation.specs.Asking.{sameOf}
+use Rattle.ranges.specs.Listing.{firstAmong, firstSame}
+use Rattle.ranges.proofs.FirstSame.{first-is-here, first-is-later, first-is-none}
 use Rattle.ranges.proofs.first_same.Statement.{statement}
 use Rattle.ranges.proofs.first_same.Tie as tie
 
 abbrev Inv-loop : tie.InvT-loop
-Inv-loop table count row earlier₀ earlier = Unit {0}
+Inv-loop table count row earlier₀ earlier = (1 ≤ earlier) × (firstSame table count row ≡ firstAmong table count row earlier (row - earlier))
 
 abbrev μ-loop : tie.MeasureT-loop
 μ-loop table count row earlier₀ earlier = row - earlier
 
 loop-holds : tie.Need-loop-holds Inv-loop μ-loop
-loop-holds c = search needs
+loop-holds c = (search needs, refl)
 
 same-requires : tie.Need-same-requires Inv-loop μ-loop
 same-requires c κs = search needs
 
+same-told : (c : tie.After-same Inv-loop μ-loop)
+    → sameOf (c .before .before .before .args .table .now) (c .before .before .before .args .count) (c .before .before .loop .earlier) (c .before .before .before .args .row) .same
+    ≡ c .same .result .same
+same-told c = sym (ap (λ a. a .same) (c .same .ensures))
+
 returns : tie.Need-returns Inv-loop μ-loop
-returns c = search needs
+returns c =
+    let t = c .before .before in
+    let s = t .before .before in
+    sym (t .before .loop .inv .1 ∙ first-is-here (s .args .table .now) (s .args .count) (s .args .row) (t .before .loop .earlier) (omega arith) (same-told (c .before) ∙ c .if1 .taken))
 
 add-earlier : tie.Need-add-earlier Inv-loop μ-loop
 add-earlier c = search needs
@@ -26,10 +39,15 @@ loop-less : tie.Need-loop-less Inv-loop μ-loop
 loop-less c = search needs
 
 loop-again : tie.Need-loop-again Inv-loop μ-loop
-loop-again c = search needs
+loop-again c =
+    let t = c .before .before in
+    let s = t .before .before in
+    (search needs, t .before .loop .inv .1 ∙ first-is-later (s .args .table .now) (s .args .count) (s .args .row) (t .before .loop .earlier) (omega arith) (same-told (c .before) ∙ c .if1 .left))
 
 returns-2 : tie.Need-returns-2 Inv-loop μ-loop
-returns-2 c = search needs
+returns-2 c =
+    let s = c .before .before in
+    sym (c .before .loop .inv .1 ∙ first-is-none (s .args .table .now) (s .args .count) (s .args .row) (c .before .loop .earlier) (omega arith))
 
 pub first-same-spec : {M : Type 1} → statement M
 first-same-spec =

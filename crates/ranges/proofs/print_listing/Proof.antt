@@ -22,8 +22,11 @@ loop-holds c = search needs
 add-row : tie.Need-add-row Inv-loop μ-loop
 add-row c = search needs
 
-print-row-requires : tie.Need-print-row-requires Inv-loop μ-loop
-print-row-requires c κs = search needs
+line-of-requires : tie.Need-line-of-requires Inv-loop μ-loop
+line-of-requires c κs = search needs
+
+print-line-requires : tie.Need-print-line-requires Inv-loop μ-loop
+print-line-requires c κs = search needs
 
 loop-less : tie.Need-loop-less Inv-loop μ-loop
 loop-less c = search needs
@@ -44,7 +47,8 @@ print-listing-spec =
     write-all-requires
     loop-holds
     add-row
-    print-row-requires
+    line-of-requires
+    print-line-requires
     loop-less
     loop-again
     returns)
