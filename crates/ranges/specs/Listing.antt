@@ -1,5 +1,4 @@
 -- What the program prints of a row: document 01, "What the program prints".
-use mathlib.Core.Bool.{true}
 use mathlib.Core.List.{List}
 use Prim.Native.Nat.{ℕ, zero, suc, _-_}
 use lib.IntN.{ℤ}
