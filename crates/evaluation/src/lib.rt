@@ -1,8 +1,8 @@
 // Evaluation of a schedule into a lent table, and what is asked about its rows (document 01, "Causes and what follows").
-pub mod asking; // asking.rt: refusals 9, 8 and 6 of a row asked for
-pub mod steps; // steps.rt: the row of a line of the sheet, from the rows before it
-pub mod table; // table.rt: rows read from a table of numbers, and put into it
-pub mod work; // work.rt: all rows, one after another
+mod asking; // asking.rt: refusals 9, 8 and 6 of a row asked for
+mod steps; // steps.rt: the row of a line of the sheet, from the rows before it
+mod table; // table.rt: rows read from a table of numbers, and put into it
+mod work; // work.rt: all rows, one after another
 
 use sheet::Refusal;
 use sheet::Schedule;

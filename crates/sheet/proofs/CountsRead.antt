@@ -88,12 +88,12 @@ unfolding readLines lineOf
 first-complete w s at rest p f e =
     let t : List ℕ = lineText CountLine (numbers w CountLine) in
     let e1 : drop at s ≡ names CountNames ++ (t ++ rest) = e ∙ rw (first-text w, append-assoc (names CountNames) t rest) in
-    let e2 : drop (at + 21) s ≡ t ++ rest = behind s at (names CountNames) (t ++ rest) e1 in
-    let a : readAs CountNames 1 zeroSchedule s at ≡ partRead (at + 21) zeroSchedule =
+    let e2 : drop (at + length (names CountNames)) s ≡ t ++ rest = behind s at (names CountNames) (t ++ rest) e1 in
+    let a : readAs CountNames 1 zeroSchedule s at ≡ partRead (at + length (names CountNames)) zeroSchedule =
     line-complete CountNames 1 zeroSchedule s at [] (t ++ rest) refl none (names-fault CountNames (padded []) refl) (e1 ∙ rw (names-text [])) ∙ rw (names-text [], names-store zeroSchedule CountNames (padded []) refl) in
-    let b : readAs CountLine 2 zeroSchedule s (at + 21) ≡ partRead (at + 21 + length t) (counted (numbers w CountLine)) =
-    line-complete CountLine 2 zeroSchedule s (at + 21) (numbers w CountLine) rest (numbers-width w CountLine) (ten-digits-counts w p) (fault-padded CountLine w ∙ f) e2 in
-    let n : at + 21 + length t ≡ at + length (linesText 2 1 w) = rw (first-text w, length-append (names CountNames) t) (omega arith) in
+    let b : readAs CountLine 2 zeroSchedule s (at + length (names CountNames)) ≡ partRead (at + length (names CountNames) + length t) (counted (numbers w CountLine)) =
+    line-complete CountLine 2 zeroSchedule s (at + length (names CountNames)) (numbers w CountLine) rest (numbers-width w CountLine) (ten-digits-counts w p) (fault-padded CountLine w ∙ f) e2 in
+    let n : at + length (names CountNames) + length t ≡ at + length (linesText 2 1 w) = rw (first-text w, length-append (names CountNames) t) (omega arith) in
     rw (a, b, n)
 
 -- the counts decide the first two lines and how many follow

@@ -21,7 +21,7 @@ lineBroken line = refusal 2 line
 abbrev pub bytesTooShort : Refusal
 bytesTooShort = refusal 8 0
 
--- Causes 3, 4 and 5 have their text line as place: `fault` of `Lines.antt` gives the number.
+-- Causes 3, 4 and 5 have their text line as place: `fault` of `Tests.antt` gives the number.
 abbrev pub countWrong : ℕ
 countWrong = 3
 
