@@ -47,19 +47,20 @@ pub record CurveSize (n m : ℕ) (c p met : ℤ) : Type 0 where
   pub turned-fits : SFits w64 (negℤ met)
   pub centre-some : c ≢ pos 0
   pub quotient-fits : SFits w64 (floorQuotient (negℤ met) c)
+  pub within : natAbs (slope c p +ℤ floorQuotient (negℤ met) c) ≤ unitSquared * n + m
   pub fits : SFits w64 (slope c p +ℤ floorQuotient (negℤ met) c)
 
 pub curve-size : (n m : ℕ) (c p met : ℤ) → unitSquared * n + m < 2 ^ 63 → SlopeSize n c p → natAbs met ≤ m → 0 < natAbs c → CurveSize n m c p met
 curve-size n m c p met h s hm some =
     let t : natAbs (negℤ met) ≤ m = rw natAbs-neg hm in
     let q : natAbs (floorQuotient (negℤ met) c) ≤ m = omega (arith, natAbs-quotient (negℤ met) c) in
+    let w = natAbs-add-within (slope c p) (floorQuotient (negℤ met) c) (s .within) q in
     record {
       turned-fits = fits-within (negℤ met) m t (omega arith);
       centre-some = not-zero c some;
       quotient-fits = fits-within (floorQuotient (negℤ met) c) m q (omega arith);
-      fits =
-          fits-within (slope c p +ℤ floorQuotient (negℤ met) c) (unitSquared * n + m)
-          (natAbs-add-within (slope c p) (floorQuotient (negℤ met) c) (s .within) q) h;
+      within = w;
+      fits = fits-within (slope c p +ℤ floorQuotient (negℤ met) c) (unitSquared * n + m) w h;
     }
 
 -- ---- where the coefficient is at most the centre

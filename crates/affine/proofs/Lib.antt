@@ -9,7 +9,6 @@ pub mod RowSize
 pub mod RangeSize
 pub mod Termwise
 pub mod Comparison
-pub mod InputRow
 pub mod Magnitude
 pub mod Totals
 pub mod CandidateSize
@@ -18,6 +17,8 @@ pub mod ErrorBound
 pub mod Distance
 pub mod Divided
 pub mod ProductError
+pub mod SpanSize
+pub mod InputRow
 pub mod Dot
 pub mod PairProducts
 pub mod Form

@@ -2,7 +2,7 @@
 -- part together are at most span times span.
 use mathlib.Core.Path.{refl}
 use mathlib.Core.Bool.{Bool, true, false}
-use mathlib.Core.List.{List, [], _∷_}
+use mathlib.Core.List.{List}
 use Prim.Native.Nat.{ℕ, zero, suc, _+_, _-_, _*_, _^_, _≤_, _<_}
 use native.Mathlib.Nat.{le-refl, le-trans, mul-comm, mul-add, add-mul, mul-le-mul}
 use native.Mathlib.Omega.{arith}
@@ -25,6 +25,7 @@ use Rattle.affine.specs.Product.{meeting, crosswise, linearTotals, pairT
 use Rattle.affine.proofs.Lists.{pick-elim}
 use Rattle.affine.proofs.PairSymbols.{tabulate-pairs}
 use Rattle.affine.proofs.RowSize.{span-is-sum, centre-within}
+use Rattle.affine.proofs.SumLaws.{sumAbs-tabulate-at, sumAbs-tabulate-within}
 
 -- two products and their sum, of first factors that are at most m and second factors at most n
 pub record TwoProducts (m n : ℕ) (a b c d : ℤ) : Type 0 where
@@ -66,23 +67,6 @@ squared-within-radius squares r = omega (arith, sumAbs-take squares (r .linear))
 
 pub kept-within-radii : (squares : ℕ) (x y : Row) → squaredRadius squares x * squaredRadius squares y ≤ radius x * radius y
 kept-within-radii squares x y = mul-le-mul (squared-within-radius squares x) (squared-within-radius squares y)
-
--- ---- sums of lists by index
-sumAbs-tabulate-at : (n : ℕ) (xs : List ℤ) → sumAbs (tabulate n (at xs)) ≤ sumAbs xs
-unfolding tabulate
-sumAbs-tabulate-at zero xs = omega arith
-sumAbs-tabulate-at (suc n) [] = let h = sumAbs-tabulate-at n [] in omega arith
-sumAbs-tabulate-at (suc n) (x ∷ xs) = let h = sumAbs-tabulate-at n xs in omega arith
-
--- numbers bounded by those of two lists, with a weight for each
-sumAbs-tabulate-within : (n : ℕ) (f g h : ℕ → ℤ) (a b : ℕ) → ((i : ℕ) → natAbs (f i) ≤ a * natAbs (g i) + b * natAbs (h i))
-    → sumAbs (tabulate n f) ≤ a * sumAbs (tabulate n g) + b * sumAbs (tabulate n h)
-unfolding tabulate
-sumAbs-tabulate-within zero f g h a b l = omega arith
-sumAbs-tabulate-within (suc n) f g h a b l =
-    let first = l 0 in
-    let rest = sumAbs-tabulate-within n (λ i. f (suc i)) (λ i. g (suc i)) (λ i. h (suc i)) a b (λ i. l (suc i)) in
-    rw (mul-add a (natAbs (g 0)), mul-add b (natAbs (h 0))) (omega arith)
 
 -- one symbol more: its product with itself, those with the others, and the rest
 square-of-sums : (a u b v : ℕ) {x y z : ℕ} → x ≤ a * b → y ≤ a * v + b * u → z ≤ u * v → x + (y + z) ≤ (a + u) * (b + v)

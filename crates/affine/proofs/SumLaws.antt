@@ -1,10 +1,11 @@
 -- Sums over a list: one element more, no part above the whole, two lists joined. By induction on the list.
 use mathlib.Core.Path.{_≡_, refl, ap, _∙_}
-use mathlib.Core.List.{List, [], _∷_}
-use Prim.Native.Nat.{ℕ, zero, suc, _+_, _≤_, _<_}
+use mathlib.Core.List.{List, [], _∷_, map}
+use Prim.Native.Nat.{ℕ, zero, suc, _+_, _*_, _≤_, _<_}
+use native.Mathlib.Nat.{mul-add, mul-suc}
 use native.Mathlib.Omega.{arith}
 use lib.IntN.{ℤ, pos, natAbs}
-use lib.ListN.{length, take}
+use lib.ListN.{length, take, set, replicate}
 use Rattle.integer.specs.Sum.{sumAbs}
 use Rattle.integer.proofs.Sum.{sumAbs-more, sumAbs-take}
 use Rattle.affine.specs.Lists.{at, tabulate, sum}
@@ -50,3 +51,42 @@ unfolding sum tabulate
 sum-tabulate-le zero f xs h = omega arith
 sum-tabulate-le (suc n) f [] h = let t = sum-tabulate-le n (λ i. f (suc i)) [] (λ i. h (suc i)) in omega (arith, h 0)
 sum-tabulate-le (suc n) f (x ∷ xs) h = let t = sum-tabulate-le n (λ i. f (suc i)) xs (λ i. h (suc i)) in omega (arith, h 0)
+
+-- ---- the absolute values of numbers by index: those of a list
+pub sumAbs-tabulate-at : (n : ℕ) (xs : List ℤ) → sumAbs (tabulate n (at xs)) ≤ sumAbs xs
+unfolding tabulate
+sumAbs-tabulate-at zero xs = omega arith
+sumAbs-tabulate-at (suc n) [] = let h = sumAbs-tabulate-at n [] in omega arith
+sumAbs-tabulate-at (suc n) (x ∷ xs) = let h = sumAbs-tabulate-at n xs in omega arith
+
+-- numbers bounded by those of two lists, with a weight for each
+pub sumAbs-tabulate-within : (n : ℕ) (f g h : ℕ → ℤ) (a b : ℕ) → ((i : ℕ) → natAbs (f i) ≤ a * natAbs (g i) + b * natAbs (h i))
+    → sumAbs (tabulate n f) ≤ a * sumAbs (tabulate n g) + b * sumAbs (tabulate n h)
+unfolding tabulate
+sumAbs-tabulate-within zero f g h a b l = omega arith
+sumAbs-tabulate-within (suc n) f g h a b l =
+    let first = l 0 in
+    let rest = sumAbs-tabulate-within n (λ i. f (suc i)) (λ i. g (suc i)) (λ i. h (suc i)) a b (λ i. l (suc i)) in
+    rw (mul-add a (natAbs (g 0)), mul-add b (natAbs (h 0))) (omega arith)
+
+-- each at most m
+pub sumAbs-tabulate-each : (n m : ℕ) (f : ℕ → ℤ) → ((i : ℕ) → natAbs (f i) ≤ m) → sumAbs (tabulate n f) ≤ m * n
+unfolding tabulate
+sumAbs-tabulate-each zero m f h = omega arith
+sumAbs-tabulate-each (suc n) m f h =
+    let rest = sumAbs-tabulate-each n m (λ i. f (suc i)) (λ i. h (suc i)) in
+    rw (mul-suc m n) (omega (arith, h 0))
+
+-- ---- one number of a list changed, and all numbers made no larger
+pub sumAbs-set : (xs : List ℤ) (i : ℕ) (v : ℤ) → sumAbs (set xs i v) ≤ sumAbs xs + natAbs v
+sumAbs-set [] i v = omega arith
+sumAbs-set (x ∷ xs) zero v = omega arith
+sumAbs-set (x ∷ xs) (suc i) v = let rest = sumAbs-set xs i v in omega arith
+
+pub sumAbs-map : (f : ℤ → ℤ) → ((z : ℤ) → natAbs (f z) ≤ natAbs z) → (xs : List ℤ) → sumAbs (map f xs) ≤ sumAbs xs
+sumAbs-map f h [] = omega arith
+sumAbs-map f h (x ∷ xs) = let rest = sumAbs-map f h xs in omega (arith, h x)
+
+pub sumAbs-zeros : (n : ℕ) → sumAbs (replicate n (pos 0)) ≡ 0
+sumAbs-zeros zero = refl
+sumAbs-zeros (suc n) = let rest = sumAbs-zeros n in omega arith

@@ -17,11 +17,21 @@ use Rattle.affine.specs.Limits.{spanLimit}
 use Rattle.affine.specs.Lists.{at, tabulate}
 use Rattle.affine.proofs.Lists.{length-tabulate, at-tabulate}
 use Rattle.affine.proofs.Fill.{Filled, filled-more}
+use Rattle.affine.proofs.SumLaws.{sumAbs-tabulate-at, sumAbs-tabulate-within}
 
 -- an operation that keeps the triangle inequality
 module _ (op : ℤ → ℤ → ℤ) (triangle : (x y : ℤ) → natAbs (op x y) ≤ natAbs x + natAbs y) where
   abbrev pub joined : ℕ → List ℤ → List ℤ → List ℤ
   joined n a b = tabulate n (λ i. op (at a i) (at b i))
+
+  pub joined-within : (n : ℕ) (a b : List ℤ) → sumAbs (joined n a b) ≤ sumAbs a + sumAbs b
+  joined-within n a b =
+      omega (
+        arith,
+        sumAbs-tabulate-within n (λ i. op (at a i) (at b i)) (at a) (at b) 1 1 (λ i. omega (arith, triangle (at a i) (at b i))),
+        sumAbs-tabulate-at n a,
+        sumAbs-tabulate-at n b,
+      )
 
   module _ (a b : List ℤ) (h : (sumAbs a ≤ spanLimit) × (sumAbs b ≤ spanLimit)) (i : ℕ) (va : mag (at a i) < 2 ^ 63) (vb : mag (at b i) < 2 ^ 63) where
     result-fits : SFits w64 (op (at a i) (at b i))

@@ -141,13 +141,6 @@ fn pair_quotients<'a, 'b>(
     PairQuotients { values, remainders }
 }
 
-fn row_radius<'a>(l: &'a [i64; SYMBOLS], p: &'a [i64; PAIRS]) -> u64
-    requires { ⌜ (length (now l) ≡ symbols) × (length (now p) ≡ pairs) × (sumAbs (now l) + sumAbs (now p) ≤ spanLimit) ⌝ }
-    ensures { λ n. ⌜ n ≡ sumAbs (now (l .entry)) + sumAbs (now (p .entry)) ⌝ }
-{
-    crate::sums::linear_absolutes(l, SYMBOLS) + crate::sums::pair_absolutes(p)
-}
-
 // No centre takes part in the dropped part.
 pub fn dropped_part<'a, 'b>(
     a: &'a [i64; SYMBOLS],
@@ -161,7 +154,7 @@ pub fn dropped_part<'a, 'b>(
     requires { ⌜ (length (now b) ≡ symbols) × (length (now q) ≡ pairs) × (sumAbs (now b) + sumAbs (now q) ≤ spanLimit) ⌝ }
     ensures { λ n. ⌜ n ≡ dropped squares (rowOfParts (pos 0) (now (a .entry)) (now (p .entry))) (rowOfParts (pos 0) (now (b .entry)) (now (q .entry))) ⌝ }
 {
-    let all = row_radius(a, p) * row_radius(b, q);
+    let all = crate::sums::row_radius(a, p) * crate::sums::row_radius(b, q);
     let kept = crate::sums::linear_absolutes(a, squares)
         * crate::sums::linear_absolutes(b, squares);
     all - kept

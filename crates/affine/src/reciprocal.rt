@@ -3,6 +3,7 @@ use crate::Answer;
 use crate::Row;
 use crate::Status;
 use crate::limits::PAIRS;
+use crate::limits::SPAN_LIMIT;
 use crate::limits::SYMBOLS;
 use crate::limits::UNIT_SQUARED;
 use crate::pair_order::second_of;
@@ -10,6 +11,7 @@ ghost use mathlib.Core.Path.{_≡_};
 ghost use mathlib.Core.List.{[]};
 ghost use Prim.Native.Nat.{ℕ, _+_, _*_, _≤_, _<_};
 ghost use lib.IntN.{pos, negℤ, natAbs, _+ℤ_};
+ghost use lib.ListN.{length};
 ghost use Rattle.integer.specs.Floor.{floorQuotient};
 ghost use Rattle.integer.specs.Sum.{sumAbs};
 ghost use Rattle.affine.specs.Limits.{symbols, pairs, paired, unitSquared, spanLimit};
@@ -153,18 +155,26 @@ fn pair_total_absolutes<'a, 'b>(
     sum
 }
 
-// A bound of operand times candidate less 1, in units of 1 over N.
-fn error_bound(x: Row, z: Row, squares: usize) -> u64
-    requires { ⌜ (squares ≤ paired) × (span x ≤ spanLimit) × (span z ≤ spanLimit) ⌝ }
-    ensures { λ r. ⌜ r ≡ errorBound squares x z ⌝ }
+// A bound of operand times candidate less 1, in units of 1 over N; both rows by their parts.
+fn error_bound<'a, 'b>(
+    c: i64,
+    a: &'a [i64; SYMBOLS],
+    p: &'a [i64; PAIRS],
+    d: i64,
+    b: &'b [i64; SYMBOLS],
+    q: &'b [i64; PAIRS],
+    squares: usize,
+) -> u64
+    requires { ⌜ squares ≤ paired ⌝ }
+    requires { ⌜ (length (now a) ≡ symbols) × (length (now p) ≡ pairs) × (span (rowOfParts c (now a) (now p)) ≤ spanLimit) ⌝ }
+    requires { ⌜ (length (now b) ≡ symbols) × (length (now q) ≡ pairs) × (span (rowOfParts d (now b) (now q)) ≤ spanLimit) ⌝ }
+    ensures { λ r. ⌜ r ≡ errorBound squares (rowOfParts c (now (a .entry)) (now (p .entry))) (rowOfParts d (now (b .entry)) (now (q .entry))) ⌝ }
 {
-    let c = x.centre;
-    let d = z.centre;
     let t = c * d - UNIT_SQUARED;
     let centre = integer::magnitude::absolute(t);
-    let linear = linear_total_absolutes(c, &x.linear, d, &z.linear);
-    let pair = pair_total_absolutes(c, &x.linear, &x.pair, d, &z.linear, &z.pair, squares);
-    let dropped = crate::product::dropped_part(&x.linear, &x.pair, &z.linear, &z.pair, squares);
+    let linear = linear_total_absolutes(c, a, d, b);
+    let pair = pair_total_absolutes(c, a, p, d, b, q, squares);
+    let dropped = crate::product::dropped_part(a, p, b, q, squares);
     centre + linear + pair + dropped
 }
 
@@ -175,10 +185,12 @@ fn reciprocal_apart(x: Row, distance: u64, squares: usize, own: usize) -> Answer
     ensures { λ r. ⌜ r ≡ reciprocalApart squares own x distance ⌝ }
 {
     let z = candidate_row(x, squares);
-    if !crate::sums::within_span(z) {
+    let d = z.centre;
+    if SPAN_LIMIT < crate::sums::span_of(d, &z.linear, &z.pair) {
         return crate::steps::refusal(Status::SpanPassed);
     }
-    let bound = error_bound(x, z, squares);
+    let c = x.centre;
+    let bound = error_bound(c, &x.linear, &x.pair, d, &z.linear, &z.pair, squares);
     let mut row = z;
     row.linear[own] = integer::division::ceiling_quotient(bound, distance) as i64;
     crate::steps::check(row)

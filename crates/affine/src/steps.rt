@@ -3,9 +3,10 @@ use crate::Answer;
 use crate::Row;
 use crate::Status;
 use crate::limits::PAIRS;
+use crate::limits::SPAN_LIMIT;
 use crate::limits::SYMBOLS;
 ghost use mathlib.Core.Path.{_≡_};
-ghost use Prim.Native.Nat.{_≤_, _<_};
+ghost use Prim.Native.Nat.{_^_, _≤_, _<_};
 ghost use lib.IntN.{natAbs, _+ℤ_, _-ℤ_};
 ghost use Rattle.integer.specs.Sum.{sumAbs};
 ghost use Rattle.affine.specs.Limits.{symbols, pairs, spanLimit};
@@ -33,9 +34,11 @@ pub fn refusal(status: Status) -> Answer
 
 // A row as the answer, or the refusal where its span is passed.
 pub fn check(row: Row) -> Answer
+    requires { ⌜ span row < 2 ^ 64 ⌝ }
     ensures { λ r. ⌜ r ≡ checked row ⌝ }
 {
-    if crate::sums::within_span(row) {
+    let c = row.centre;
+    if crate::sums::span_of(c, &row.linear, &row.pair) <= SPAN_LIMIT {
         Answer {
             status: Status::Accepted,
             row,

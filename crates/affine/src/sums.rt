@@ -4,17 +4,17 @@ use crate::limits::PAIRS;
 use crate::limits::SPAN_LIMIT;
 use crate::limits::SYMBOLS;
 ghost use mathlib.Core.Path.{_≡_};
-ghost use Prim.Native.Nat.{ℕ, suc, _+_, _≤_, _<_};
+ghost use Prim.Native.Nat.{suc, _+_, _^_, _≤_, _<_};
 ghost use lib.IntN.{natAbs};
 ghost use lib.ListN.{length, take};
 ghost use Rattle.integer.specs.Sum.{sumAbs};
 ghost use Rattle.affine.specs.Limits.{symbols, pairs, spanLimit};
-ghost use Rattle.affine.specs.Row.{withinSpan, agree, same};
+ghost use Rattle.affine.specs.Row.{rowOfParts, span, withinSpan, agree, same};
 ghost use Rattle.affine.specs.Capped.{capped};
 
 // The sum of the first n absolute coefficients. Callers state the array's length: a proof learns it of an array held, not of one lent.
 pub fn linear_absolutes(a: &[i64; SYMBOLS], n: usize) -> u64
-    requires { ⌜ (n ≤ symbols) × (length (now a) ≡ symbols) × (sumAbs (now a) ≤ spanLimit) ⌝ }
+    requires { ⌜ (n ≤ symbols) × (length (now a) ≡ symbols) × (sumAbs (now a) < 2 ^ 64) ⌝ }
     ensures { λ r. ⌜ r ≡ sumAbs (take n (now (a .entry))) ⌝ }
 {
     let mut sum: u64 = 0;
@@ -29,7 +29,7 @@ pub fn linear_absolutes(a: &[i64; SYMBOLS], n: usize) -> u64
 }
 
 pub fn pair_absolutes(p: &[i64; PAIRS]) -> u64
-    requires { ⌜ (length (now p) ≡ pairs) × (sumAbs (now p) ≤ spanLimit) ⌝ }
+    requires { ⌜ (length (now p) ≡ pairs) × (sumAbs (now p) < 2 ^ 64) ⌝ }
     ensures { λ r. ⌜ r ≡ sumAbs (now (p .entry)) ⌝ }
 {
     let mut sum: u64 = 0;
@@ -41,6 +41,22 @@ pub fn pair_absolutes(p: &[i64; PAIRS]) -> u64
         k += 1;
     }
     sum
+}
+
+// The sum of all absolute coefficients.
+pub fn row_radius<'a>(l: &'a [i64; SYMBOLS], p: &'a [i64; PAIRS]) -> u64
+    requires { ⌜ (length (now l) ≡ symbols) × (length (now p) ≡ pairs) × (sumAbs (now l) + sumAbs (now p) < 2 ^ 64) ⌝ }
+    ensures { λ n. ⌜ n ≡ sumAbs (now (l .entry)) + sumAbs (now (p .entry)) ⌝ }
+{
+    linear_absolutes(l, SYMBOLS) + pair_absolutes(p)
+}
+
+// The span of a row, by its parts, where the sum does not wrap. `within_span` tests a row of any numbers, at twice the cost.
+pub fn span_of<'a>(c: i64, l: &'a [i64; SYMBOLS], p: &'a [i64; PAIRS]) -> u64
+    requires { ⌜ (length (now l) ≡ symbols) × (length (now p) ≡ pairs) × (span (rowOfParts c (now l) (now p)) < 2 ^ 64) ⌝ }
+    ensures { λ n. ⌜ n ≡ span (rowOfParts c (now (l .entry)) (now (p .entry))) ⌝ }
+{
+    integer::magnitude::absolute(c) + row_radius(l, p)
 }
 
 // A sum that stops one above the span limit, so that no row makes it wrap.

@@ -22,6 +22,7 @@ use Rattle.affine.proofs.Totals.{linear-totals-of-parts, pair-totals-of
 use Rattle.affine.proofs.Divided.{remainders}
 use Rattle.affine.proofs.Magnitude.{centre-product-within}
 use Rattle.affine.proofs.ProductError.{allRemainders, remainders-are-sum, error-within}
+use Rattle.affine.proofs.SpanSize.{span-as, span-product}
 use Rattle.affine.proofs.product.multiply.Statement.{statement}
 use Rattle.affine.proofs.product.multiply.Tie as tie
 
@@ -154,9 +155,6 @@ cast-linear c = search needs
 floor-quotient-4096-requires : tie.Need-floor-quotient-4096-requires
 floor-quotient-4096-requires c κs = search needs
 
-check-requires : tie.Need-check-requires
-check-requires c κs = search needs
-
 -- ---- the three parts of the row
 abbrev own-start : tie.After-ceiling-quotient → tie.Start
 own-start c = start (remains (c .before .before))
@@ -175,18 +173,34 @@ own-is c =
 own-small : (c : tie.After-ceiling-quotient) → c .ceiling-quotient .result < 2 ^ 63
 own-small c = omega (arith, own-is c, within (own-start c))
 
-returns : tie.Need-returns
+abbrev remains-of : tie.After-floor-quotient-4096 → Remains
+remains-of c = remains (c .before .before .before .before)
+
+row-is : (c : tie.After-floor-quotient-4096)
+    → let r = remains-of c in
+    let g = start r .args in
+    rowOfParts (toZ w64 (ofZ w64 (c .floor-quotient-4096 .result)))
+    (set (after-linear r .linear-quotients .result .values) (g .own) (toZ w64 (c .before .before .ceiling-quotient .result)))
+    (r .before .pair-quotients .result .values)
+    ≡ productRow (g .squares) (g .own) (g .t1) (g .t2)
 unfolding productOwn productRow
-returns c =
-    let q = c .before .before .before in
-    let r = remains (q .before .before) in
+row-is c =
+    let q = c .before .before in
+    let r = remains-of c in
     let s = start r in
-    let centre-is = back (c .before .floor-quotient-4096 .ok) ∙ (rw (total-is s) at (c .before .floor-quotient-4096 .ensures)) in
+    let centre-is = back (c .floor-quotient-4096 .ok) ∙ (rw (total-is s) at (c .floor-quotient-4096 .ensures)) in
     let linear-is = after-linear r .linear-quotients .ensures .0 ∙ ap (map (productRounding .quotient)) (linear-totals r) in
     let own = toZ-pos w64 (q .ceiling-quotient .result) (own-small q) ∙ ap pos (own-is q) in
     let pair-is = r .before .pair-quotients .ensures .0 ∙ ap (map (productRounding .quotient)) (pair-totals r) in
-    c .check .ensures
-    ∙ ap checked (λ i. record { centre = centre-is i; linear = set (linear-is i) (s .args .own) (own i); pair = pair-is i })
+    λ i. record { centre = centre-is i; linear = set (linear-is i) (s .args .own) (own i); pair = pair-is i }
+
+check-requires : tie.Need-check-requires
+check-requires c κs =
+    let s = start (remains-of c) in
+    span-as (row-is c) (omega (arith, span-product (s .args .squares) (s .args .own) (s .args .t1) (s .args .t2) (s .pre .2) (s .pre .3)))
+
+returns : tie.Need-returns
+returns c = c .check .ensures ∙ ap checked (row-is (c .before))
 
 pub multiply-spec : {M : Type 1} → statement M
 multiply-spec =

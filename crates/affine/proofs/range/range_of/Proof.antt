@@ -53,7 +53,7 @@ high-step c =
     (operation-fits _+ℤ_ {a = r .centre} {b = pos (reachAbove r)} f g e, operation-gives _+ℤ_ {a = r .centre} {b = pos (reachAbove r)} f g e)
 
 linear-absolutes-requires : tie.Need-linear-absolutes-requires
-linear-absolutes-requires c κs = let s = c .before .before .before in (omega arith, long s, linear-within (s .args .t1) (s .pre))
+linear-absolutes-requires c κs = let s = c .before .before .before in (omega arith, long s, omega (arith, linear-within (s .args .t1) (s .pre)))
 
 -- what the linear coefficients and the pairs reach together
 abbrev start : tie.After-linear-absolutes → tie.Start

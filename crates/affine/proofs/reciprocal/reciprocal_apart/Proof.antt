@@ -1,21 +1,23 @@
 -- `reciprocal_apart` meets its contract: the candidate's span is tested first, and then bounds what the own coefficient covers.
-use mathlib.Core.Path.{_≡_, sym, ap, _∙_}
-use mathlib.Core.Bool.{true, false}
+use mathlib.Core.Path.{_≡_, ap, ap₂, _∙_}
 use Prim.Native.Nat.{_+_, _*_, _^_, _≤_, _<_}
 use native.Mathlib.Omega.{arith}
 use borrow.Author.Needs.{needs}
-use borrow.Author.Tests.{leb-true, not-true, not-false}
-use lib.IntN.{pos}
-use lib.ListN.{set}
+use borrow.Author.Tests.{le-leb, lt-leb}
+use lib.IntN.{pos, natAbs}
+use lib.ListN.{length}
 use mir.Syntax.{w64}
-use mir.ValLaws.{toZ-pos}
+use mir.Val.{SFits, toZ, ofZ}
+use mir.ValLaws.{toZ-ofZ, toZ-pos}
 use Rattle.integer.specs.Floor.{ceilingQuotient}
 use Rattle.integer.proofs.Floor.{ceiling-at-most}
 use Rattle.affine.specs.declared.Row.{Row}
-use Rattle.affine.specs.Limits.{unitSquared, spanLimit}
-use Rattle.affine.specs.Row.{span, withinSpan}
-use Rattle.affine.specs.Steps.{checked}
+use Rattle.affine.specs.Limits.{symbols, pairs, unitSquared, spanLimit}
+use Rattle.affine.specs.Row.{rowOfParts, span}
+use Rattle.affine.specs.Steps.{withOwn, checked}
 use Rattle.affine.specs.Reciprocal.{candidate, errorBound, reciprocalOwn, reciprocalRow}
+use Rattle.affine.proofs.SpanSize.{span-as, span-own}
+use Rattle.affine.proofs.Candidate.{span-candidate}
 use Rattle.affine.proofs.ErrorBound.{error-bound-within}
 use Rattle.affine.proofs.reciprocal.reciprocal_apart.Statement.{statement}
 use Rattle.affine.proofs.reciprocal.reciprocal_apart.Tie as tie
@@ -23,98 +25,140 @@ use Rattle.affine.proofs.reciprocal.reciprocal_apart.Tie as tie
 candidate-row-requires : tie.Need-candidate-row-requires
 candidate-row-requires c κs = search needs
 
-within-span-requires : tie.Need-within-span-requires
-within-span-requires c κs = search needs
-
 -- ---- the candidate, and the test of its span
 abbrev wanted : tie.Start → Row
-wanted c = candidate (c .args .squares) (c .args .x)
+wanted c = candidate (c .args .squares) (c .args .t1)
 
-tested : (c : tie.After-within-span) → c .within-span .result ≡ withinSpan (wanted (c .before .before))
-tested c = c .within-span .ensures ∙ ap withinSpan (c .before .candidate-row .ensures)
+centre-some : (c : tie.Start) → 0 < natAbs (c .args .t1 .centre)
+centre-some c = omega (arith, c .pre .1 .0, c .pre .1 .1)
 
-passed : (c : tie.Then1) → withinSpan (wanted (c .before .before .before)) ≡ false
-passed c = sym (tested (c .before)) ∙ not-true _ (c .if1 .taken)
+candidate-small : (c : tie.Start) → span (wanted c) < 2 ^ 64
+candidate-small c =
+    span-candidate (c .args .squares) (c .args .t1) (centre-some c) (omega (arith, c .pre .1 .1)) (c .pre .0 .2)
 
-kept : (c : tie.Else1) → withinSpan (wanted (c .before .before .before)) ≡ true
-kept c = sym (tested (c .before)) ∙ not-false _ (c .if1 .left)
+abbrev made : tie.After-candidate-row → Row
+made c = c .candidate-row .result
 
-candidate-within : (c : tie.Else1) → span (wanted (c .before .before .before)) ≤ spanLimit
-candidate-within c = leb-true _ _ (kept c)
+made-fits : (c : tie.After-candidate-row) → SFits w64 (made c .centre)
+made-fits c = search needs
+
+made-long : (c : tie.After-candidate-row) → (length (made c .linear) ≡ symbols) × (length (made c .pair) ≡ pairs)
+made-long c = search needs
+
+-- its parts, as they are lent
+lent : (c : tie.After-candidate-row) → rowOfParts (toZ w64 (ofZ w64 (made c .centre))) (made c .linear) (made c .pair) ≡ wanted (c .before)
+lent c = rw (toZ-ofZ w64 _ (made-fits c)) (c .candidate-row .ensures)
+
+span-of-requires : tie.Need-span-of-requires
+span-of-requires c κs =
+    let m = c .before .before .before .before in
+    (made-long m .0, made-long m .1, span-as (lent m) (candidate-small (m .before)))
+
+span-is : (c : tie.After-span-of) → c .span-of .result ≡ span (wanted (c .before .before .before .before .before .before))
+span-is c = c .span-of .ensures ∙ ap span (lent (c .before .before .before .before .before))
 
 refusal-requires : tie.Need-refusal-requires
 refusal-requires c κs = search needs
 
 returns : tie.Need-returns
-returns c = simp (passed (c .before)) (c .refusal .ensures)
+returns c =
+    let e = span-is (c .before .before) in
+    simp (lt-leb (span (wanted (c .before .before .before .before .before .before .before .before))) spanLimit (rw e at (c .before .if1 .taken))) (c .refusal .ensures)
+
+-- ---- from here on the candidate is within the span limit
+abbrev from : tie.Else1 → tie.After-candidate-row
+from c = c .before .before .before .before .before .before
+
+kept : (c : tie.Else1) → span (wanted (from c .before)) ≤ spanLimit
+kept c = rw (span-is (c .before)) at (c .if1 .left)
+
+x-fits : (c : tie.Start) → SFits w64 (c .args .t1 .centre)
+x-fits c = search needs
+
+x-long : (c : tie.Start) → (length (c .args .t1 .linear) ≡ symbols) × (length (c .args .t1 .pair) ≡ pairs)
+x-long c = search needs
 
 error-bound-requires : tie.Need-error-bound-requires
 error-bound-requires c κs =
-    let s = c .before .before .before in
-    (s .pre .0 .0, s .pre .0 .2, rw (c .before .before .candidate-row .ensures) (candidate-within c))
-
--- ---- the own coefficient
-bound-is : (c : tie.After-error-bound)
-    → c .error-bound .result ≡ errorBound (c .before .before .before .before .args .squares) (c .before .before .before .before .args .x) (wanted (c .before .before .before .before))
-bound-is c =
-    let s = c .before .before .before .before in
-    c .error-bound .ensures ∙ ap (errorBound (s .args .squares) (s .args .x)) (c .before .before .before .candidate-row .ensures)
-
-bound-within : (c : tie.After-error-bound) → c .error-bound .result ≤ spanLimit * spanLimit + unitSquared
-bound-within c =
-    let s = c .before .before .before .before in
-    rw (bound-is c) (error-bound-within (s .args .squares) (s .args .x) (wanted s) (s .pre .0 .2) (candidate-within (c .before)))
-
-own-is : (c : tie.After-ceiling-quotient)
-    → let s = c .before .before .before .before .before in
-    c .ceiling-quotient .result ≡ ceilingQuotient (errorBound (s .args .squares) (s .args .x) (wanted s)) (s .args .distance)
-own-is c =
-    let s = c .before .before .before .before .before in
-    c .ceiling-quotient .ensures ∙ ap (λ n. ceilingQuotient n (s .args .distance)) (bound-is (c .before))
-
-own-small : (c : tie.After-ceiling-quotient) → c .ceiling-quotient .result < 2 ^ 63
-own-small c =
-    let s = c .before .before .before .before .before in
-    omega (arith, c .ceiling-quotient .ensures, ceiling-at-most (c .before .error-bound .result) (s .args .distance) (s .pre .1 .0), bound-within (c .before))
+    let e = c .before .before .before .before .before .before .before in
+    let m = from e in
+    let s = m .before in
+    rw (lent m, toZ-ofZ w64 _ (x-fits s))
+    (s .pre .0 .0, ((x-long s .0, x-long s .1, s .pre .0 .2), (made-long m .0, made-long m .1, kept e)))
 
 ceiling-quotient-requires : tie.Need-ceiling-quotient-requires
 ceiling-quotient-requires c κs = search needs
 
+-- ---- the own coefficient
+abbrev else : tie.After-error-bound → tie.Else1
+else c = c .before .before .before .before .before .before .before .before
+
+bound-is : (c : tie.After-error-bound)
+    → let s = from (else c) .before in
+    c .error-bound .result ≡ errorBound (s .args .squares) (s .args .t1) (wanted s)
+bound-is c =
+    let m = from (else c) in
+    rw (lent m, toZ-ofZ w64 _ (x-fits (m .before))) at (c .error-bound .ensures)
+
+bound-within : (c : tie.After-error-bound) → c .error-bound .result ≤ spanLimit * spanLimit + unitSquared
+bound-within c =
+    let s = from (else c) .before in
+    rw (bound-is c) (error-bound-within (s .args .squares) (s .args .t1) (wanted s) (s .pre .0 .2) (kept (else c)))
+
+abbrev start : tie.After-ceiling-quotient → tie.Start
+start c = from (else (c .before)) .before
+
+own-is : (c : tie.After-ceiling-quotient)
+    → c .ceiling-quotient .result ≡ ceilingQuotient (errorBound (start c .args .squares) (start c .args .t1) (wanted (start c))) (start c .args .distance)
+own-is c = c .ceiling-quotient .ensures ∙ ap (λ n. ceilingQuotient n (start c .args .distance)) (bound-is (c .before))
+
+own-small : (c : tie.After-ceiling-quotient) → c .ceiling-quotient .result < 2 ^ 63
+own-small c =
+    let s = start c in
+    omega (arith, c .ceiling-quotient .ensures, ceiling-at-most (c .before .error-bound .result) (s .args .distance) (s .pre .1 .0), bound-within (c .before))
+
 cast-row : tie.Need-cast-row
 cast-row c = record { sfits = own-small c }
 
-mul-t13 : tie.Need-mul-t13
-mul-t13 c = search needs
+mul-t23 : tie.Need-mul-t23
+mul-t23 c = search needs
 
 element-set-from-row : tie.Need-element-set-from-row
 element-set-from-row c = search needs
 
+-- ---- the row
+row-is : (c : tie.After-ceiling-quotient)
+    → let s = start c in
+    withOwn (s .args .own) (toZ w64 (c .ceiling-quotient .result)) (made (from (else (c .before))))
+    ≡ reciprocalRow (s .args .squares) (s .args .own) (s .args .t1) (s .args .distance)
+unfolding reciprocalOwn reciprocalRow
+row-is c =
+    let s = start c in
+    ap₂ (withOwn (s .args .own)) (toZ-pos w64 (c .ceiling-quotient .result) (own-small c) ∙ ap pos (own-is c)) (from (else (c .before)) .candidate-row .ensures)
+
 check-requires : tie.Need-check-requires
-check-requires c κs = search needs
+check-requires c κs =
+    let s = start c in
+    let m = from (else (c .before)) in
+    span-as (ap₂ (withOwn (s .args .own)) (toZ-pos w64 (c .ceiling-quotient .result) (own-small c)) (m .candidate-row .ensures))
+    (omega (arith, span-own (s .args .own) (pos (c .ceiling-quotient .result)) (wanted s), kept (else (c .before)), own-small c))
 
 returns-2 : tie.Need-returns-2
-unfolding reciprocalOwn reciprocalRow
 returns-2 c =
-    let q = c .before in
-    let s = q .before .before .before .before .before in
-    let z = q .before .before .before .before .candidate-row .ensures in
-    let own = toZ-pos w64 (q .ceiling-quotient .result) (own-small q) ∙ ap pos (own-is q) in
-    c .check .ensures
-    ∙ rw (kept (q .before .before))
-    (ap checked (λ i. record { centre = z i .centre; linear = set (z i .linear) (s .args .own) (own i); pair = z i .pair }))
+    c .check .ensures ∙ simp (le-leb (span (wanted (start (c .before)))) spanLimit (kept (else (c .before .before)))) (ap checked (row-is (c .before)))
 
 pub reciprocal-apart-spec : {M : Type 1} → statement M
 reciprocal-apart-spec =
     tie.close
     (tie.spec
     candidate-row-requires
-    within-span-requires
+    span-of-requires
     refusal-requires
     returns
     error-bound-requires
     ceiling-quotient-requires
     cast-row
-    mul-t13
+    mul-t23
     element-set-from-row
     check-requires
     returns-2)

@@ -1,21 +1,40 @@
 -- `steps::check` meets its contract: by the two results of the span test.
-use mathlib.Core.Path.{sym, _∙_}
+use mathlib.Core.Path.{_≡_, sym, _∙_}
+use borrow.Author.Tests.{le-leb, lt-leb}
+use lib.ListN.{length}
+use mir.Syntax.{w64}
+use mir.Val.{SFits}
+use mir.ValLaws.{toZ-ofZ}
+use Rattle.affine.specs.Limits.{symbols, pairs, spanLimit}
+use Rattle.affine.specs.Row.{span}
 use Rattle.affine.proofs.Answers.{checked-within, checked-passed}
 use borrow.Author.Needs.{needs}
 use Rattle.affine.proofs.steps.check.Statement.{statement}
 use Rattle.affine.proofs.steps.check.Tie as tie
 
-within-span-requires : tie.Need-within-span-requires
-within-span-requires c κs = search needs
+centre-fits : (c : tie.Start) → SFits w64 (c .args .t1 .centre)
+centre-fits c = search needs
+
+long : (c : tie.Start) → (length (c .args .t1 .linear) ≡ symbols) × (length (c .args .t1 .pair) ≡ pairs)
+long c = search needs
+
+span-of-requires : tie.Need-span-of-requires
+span-of-requires c κs =
+    let s = c .before .before .before .before in
+    rw (toZ-ofZ w64 _ (centre-fits s)) (long s .0, long s .1, s .pre)
+
+span-is : (c : tie.After-span-of) → c .span-of .result ≡ span (c .before .before .before .before .before .args .t1)
+span-is c = rw (toZ-ofZ w64 _ (centre-fits (c .before .before .before .before .before))) at (c .span-of .ensures)
 
 refusal-requires : tie.Need-refusal-requires
 refusal-requires c κs = search needs
 
 returns : tie.Need-returns
-returns c = sym (checked-within (c .before .before .args .row) (sym (c .before .within-span .ensures) ∙ c .if1 .taken))
+returns c = sym (checked-within _ (le-leb _ spanLimit (rw (span-is (c .before)) at (c .if1 .taken))))
 
 returns-2 : tie.Need-returns-2
-returns-2 c = c .refusal .ensures ∙ sym (checked-passed _ (sym (c .before .before .within-span .ensures) ∙ c .before .if1 .left))
+returns-2 c =
+    c .refusal .ensures ∙ sym (checked-passed _ (lt-leb _ spanLimit (rw (span-is (c .before .before)) at (c .before .if1 .left))))
 
 pub check-spec : {M : Type 1} → statement M
-check-spec = tie.close (tie.spec within-span-requires refusal-requires returns returns-2)
+check-spec = tie.close (tie.spec span-of-requires refusal-requires returns returns-2)

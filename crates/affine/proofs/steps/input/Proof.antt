@@ -7,8 +7,9 @@ use mir.Syntax.{w64}
 use mir.Val.{SFits, toZ, ofZ}
 use Rattle.integer.specs.Floor.{floorQuotient}
 use Rattle.integer.proofs.Machine.{back-as, operation-fits, operation-gives}
-use Rattle.affine.specs.Steps.{constantRow, withOwn, inputCentre, checked}
-use Rattle.affine.proofs.InputRow.{sum-fits, centre-fits, own-fits}
+use Rattle.affine.specs.Steps.{constantRow, withOwn, inputCentre, inputRow, checked}
+use Rattle.affine.proofs.SpanSize.{span-as}
+use Rattle.affine.proofs.InputRow.{sum-fits, centre-fits, own-fits, span-input}
 use borrow.Author.Needs.{needs}
 use Rattle.affine.proofs.steps.input.Statement.{statement}
 use Rattle.affine.proofs.steps.input.Tie as tie
@@ -63,14 +64,19 @@ mul-t8 c = search needs
 element-set-from-row : tie.Need-element-set-from-row
 element-set-from-row c = search needs
 
+new-row-is : (c : tie.After-constant-row)
+    → let s = c .before .before in
+    withOwn (s .args .own) (toZ w64 (ofZ w64 (toZ w64 (ofZ w64 (s .args .high)) -ℤ toZ w64 (ofZ w64 (c .before .floor-quotient .result))))) (c .constant-row .result)
+    ≡ inputRow (s .args .own) (s .args .low) (s .args .high)
+new-row-is c = ap₂ (λ r v. withOwn (c .before .before .args .own) v r) (row-is c) (own-is c)
+
 check-requires : tie.Need-check-requires
-check-requires c κs = search needs
+check-requires c κs =
+    let s = c .before .before in
+    span-as (new-row-is c) (omega (arith, span-input (s .args .low) (s .args .high) (s .pre .1) (s .pre .2) (s .args .own)))
 
 returns : tie.Need-returns
-returns c =
-    let b = c .before in
-    let s = b .before .before in
-    c .check .ensures ∙ ap₂ (λ r v. checked (withOwn (s .args .own) v r)) (row-is b) (own-is b)
+returns c = c .check .ensures ∙ ap checked (new-row-is (c .before))
 
 pub input-spec : {M : Type 1} → statement M
 input-spec =

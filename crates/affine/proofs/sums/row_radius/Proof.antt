@@ -6,8 +6,8 @@ use borrow.Author.Needs.{needs}
 use Rattle.affine.specs.Limits.{symbols}
 use Rattle.integer.specs.Sum.{sumAbs}
 use Rattle.affine.proofs.SumLaws.{sumAbs-all}
-use Rattle.affine.proofs.product.row_radius.Statement.{statement}
-use Rattle.affine.proofs.product.row_radius.Tie as tie
+use Rattle.affine.proofs.sums.row_radius.Statement.{statement}
+use Rattle.affine.proofs.sums.row_radius.Tie as tie
 
 linear-absolutes-requires : tie.Need-linear-absolutes-requires
 linear-absolutes-requires c κs = search needs
