@@ -1,4 +1,4 @@
--- Sums over a list: one element more, no part above the whole, two lists joined. By induction on the list.
+-- Sums over a list: one element more, no part above the whole, numbers by index, a number changed. By induction on the list.
 use mathlib.Core.Path.{_≡_, refl, ap, _∙_}
 use mathlib.Core.List.{List, [], _∷_, map}
 use Prim.Native.Nat.{ℕ, zero, suc, _+_, _*_, _≤_, _<_}
