@@ -11,6 +11,7 @@ pub mod LineKinds
 pub mod LineRead
 pub mod Passing
 pub mod SheetText
+pub mod Blocks
 pub mod SheetRead
 pub mod Passed
 pub mod SheetLength

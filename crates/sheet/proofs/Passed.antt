@@ -1,5 +1,5 @@
 -- What a schedule that passes 3, 4 and 5 holds, line by line and then as one record (`passed`), which evaluation cites.
-use mathlib.Core.Path.{_≡_, refl, _∙_}
+use mathlib.Core.Path.{_≡_, refl}
 use mathlib.Core.Bool.{Bool, true, false}
 use mathlib.Core.List.{[], _∷_}
 use Prim.Native.Nat.{ℕ, zero, suc, _+_, _-_, _≤_, _<_}
@@ -20,7 +20,7 @@ use Rattle.sheet.specs.declared.Line.{Line}
 use Rattle.sheet.specs.declared.Line.the-variants.{CountLine, EndLine, StepLine}
 use Rattle.sheet.proofs.Choice.{pick-elim}
 use Rattle.sheet.proofs.FieldLine.{TenDigits, none, one}
-use Rattle.sheet.proofs.LineKinds.{Kind, end-names, end-line, step-names, step-line, kind, Shape, Room, is-end-line, is-step-line}
+use Rattle.sheet.proofs.LineKinds.{Kind, end-names, end-line, step-names, step-line, kind, Shape, Room, ends-line-is, step-line-is}
 use Rattle.sheet.proofs.SheetRead.{Within}
 use Rattle.sheet.proofs.Passing.{Natural, CountsPassed, counts-passed, EndsPassed, ends-passed, StepPassed, step-passed}
 
@@ -146,15 +146,8 @@ passed c z =
     let n : ℕ = natural (c .inputs) in
     record {
       counts = counts-first c (t .0);
-      ends = λ i h.
-          let k : 4 + i - 4 ≡ i = omega arith in
-          let l : lineAt c (4 + i) ≡ EndLine i = is-end-line n (4 + i) (omega arith) (omega arith) ∙ rw k in
-          ends-line c i (rw l at (f (4 + i) (omega arith) (omega arith)));
-      steps = λ j h.
-          let a : n + j + 5 - 5 - n ≡ j = omega arith in
-          let b : n + j + 5 - 5 ≡ n + j = omega arith in
-          let l : lineAt c (n + j + 5) ≡ StepLine j (n + j) = is-step-line n (n + j + 5) (omega arith) ∙ rw (a, b) in
-          step-line-passed c j (n + j) (rw l at (f (n + j + 5) (omega arith) (omega arith)));
+      ends = λ i h. ends-line c i (rw (ends-line-is n i h) at (f (4 + i) (omega arith) (omega arith)));
+      steps = λ j h. step-line-passed c j (n + j) (rw (step-line-is n j) at (f (5 + n + j) (omega arith) (omega arith)));
     }
 
 -- a test that tells no number tells no place

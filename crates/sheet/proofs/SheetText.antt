@@ -26,7 +26,7 @@ fault-padded (EndLine i) c = refl
 fault-padded StepNames c = refl
 fault-padded (StepLine i r) c = refl
 
--- the loop of `test_lines`
+-- the loops of `test_ends` and `test_steps`
 module _ (c : Schedule) (count first i : ℕ) where
   left : i < count → count - i ≡ suc (count - (i + 1))
   left h = omega arith
@@ -37,9 +37,9 @@ module _ (c : Schedule) (count first i : ℕ) where
       let n : suc (first + i) ≡ first + (i + 1) = omega arith in
       rw (left h) (simp (eq-eqb (faultAt c (first + i)) 0 e) (rw n))
 
-  pub test-stop : i < count → (faultAt c (first + i) ≡ 0 → ⊥) → testLines (count - i) (first + i) c ≡ refusal (faultAt c (first + i)) (first + i)
+  pub test-stop : (n : ℕ) → i < count → faultAt c (first + i) ≡ suc n → testLines (count - i) (first + i) c ≡ refusal (suc n) (first + i)
   unfolding testLines
-  test-stop h e = rw (left h) (simp (ne-eqb (faultAt c (first + i)) 0 e))
+  test-stop n h e = rw (left h) (simp (e, ne-eqb (suc n) 0 (λ z. omega arith)))
 
   pub test-done : count ≤ i → testLines (count - i) (first + i) c ≡ accepted
   unfolding testLines

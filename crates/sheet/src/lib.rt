@@ -7,9 +7,9 @@ ghost use Rattle.sheet.specs.Lines.{zeroSchedule};
 mod number; // number.rt: a number field, read and written
 mod fields; // fields.rt: a line of fields, read and written
 mod lines; // lines.rt: what each line of a sheet holds
-mod tests; // tests.rt: the tests 3, 4 and 5 of a line's numbers
+mod tests; // tests.rt: the tests 3, 4 and 5 of a line's numbers, and of a schedule
 mod reader; // reader.rt: a sheet, line by line
-mod writer; // writer.rt: a schedule tested and written, line by line
+mod writer; // writer.rt: a schedule written, line by line
 
 // What a count is as a natural number, for the callers of `test`.
 pub use lines::natural;
@@ -101,11 +101,18 @@ pub fn read(bytes: &[u8]) -> ReadAnswer
 pub fn test(schedule: Schedule) -> Refusal
     ensures { λ r. ⌜ r ≡ testOf schedule ⌝ }
 {
-    let counts = writer::test_lines(schedule, 1, 2);
-    if counts.number != 0 {
-        return counts;
+    if !tests::counts_pass(schedule.inputs, schedule.squares, schedule.steps) {
+        return Refusal {
+            number: 3,
+            place: 2,
+        };
     }
-    writer::test_lines(schedule, 3, lines::lines_left(schedule))
+    let inputs = schedule.inputs as usize;
+    let ends = tests::test_ends(schedule, inputs);
+    if ends.number != 0 {
+        return ends;
+    }
+    tests::test_steps(schedule, inputs, schedule.steps as usize)
 }
 
 // Writes the sheet of a schedule into the lent bytes, where it passes and there is room.

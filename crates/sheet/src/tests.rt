@@ -1,4 +1,4 @@
-// The tests 3, 4 and 5 of a line's numbers.
+// The tests 3, 4 and 5, of a line's numbers and of a schedule that is handed over.
 use crate::END_LIMIT;
 use crate::End;
 use crate::LAST_BINARY;
@@ -6,10 +6,16 @@ use crate::LAST_CODE;
 use crate::Line;
 use crate::MAX_INPUTS;
 use crate::MAX_STEPS;
+use crate::Refusal;
+use crate::Schedule;
 use crate::Step;
 use crate::lines;
 ghost use mathlib.Core.Path.{_≡_};
+ghost use Prim.Native.Nat.{_+_, _≤_};
+ghost use Rattle.sheet.specs.Limits.{maxInputs, maxSteps};
+ghost use Rattle.sheet.specs.Lines.{natural};
 ghost use Rattle.sheet.specs.Tests as Spec;
+ghost use Rattle.sheet.specs.Writing.{testLines};
 
 // Whether z lies from a to b.
 fn between(a: i64, z: i64, b: i64) -> bool
@@ -25,7 +31,7 @@ fn within_limit(z: i64) -> bool
 }
 
 // Whether counts stand within their limits.
-fn counts_pass(inputs: i64, squares: i64, steps: i64) -> bool
+pub fn counts_pass(inputs: i64, squares: i64, steps: i64) -> bool
     ensures { λ r. ⌜ r ≡ Spec.countsPass inputs squares steps ⌝ }
 {
     if between(1, inputs, MAX_INPUTS as i64) {
@@ -110,5 +116,49 @@ pub fn fault(l: Line, v: [i64; 4]) -> u64
         } else {
             5
         },
+    }
+}
+
+// The first input of a schedule whose ends are refused.
+pub fn test_ends(c: Schedule, inputs: usize) -> Refusal
+    requires { ⌜ (inputs ≡ natural (c .inputs)) × (inputs ≤ maxInputs) ⌝ }
+    ensures { λ r. ⌜ r ≡ testLines inputs 4 c ⌝ }
+{
+    let mut i = 0;
+    while i < inputs {
+        let e = c.ends[i];
+        if !ends_pass(e) {
+            return Refusal {
+                number: 4,
+                place: 4 + i,
+            };
+        }
+        i += 1;
+    }
+    Refusal {
+        number: 0,
+        place: 0,
+    }
+}
+
+// The first step of a schedule that is refused.
+pub fn test_steps(c: Schedule, inputs: usize, steps: usize) -> Refusal
+    requires { ⌜ (inputs ≡ natural (c .inputs)) × (inputs ≤ maxInputs) × (steps ≤ maxSteps) ⌝ }
+    ensures { λ r. ⌜ r ≡ testLines steps (5 + inputs) c ⌝ }
+{
+    let mut i = 0;
+    while i < steps {
+        let t = c.step[i];
+        if !step_passes(inputs + i, t) {
+            return Refusal {
+                number: 5,
+                place: 5 + inputs + i,
+            };
+        }
+        i += 1;
+    }
+    Refusal {
+        number: 0,
+        place: 0,
     }
 }

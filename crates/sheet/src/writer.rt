@@ -1,46 +1,13 @@
-// A schedule tested and written, line by line.
+// A schedule written, line by line.
 use crate::Line;
-use crate::Refusal;
 use crate::Schedule;
 use crate::fields;
 use crate::lines;
-use crate::tests;
-ghost use mathlib.Core.Path.{_≡_};
 ghost use Prim.Native.Nat.{_+_, _≤_, _<_, _^_};
 ghost use lib.ListN.{length};
 ghost use Rattle.sheet.specs.Lines.{lineText, numbers};
-ghost use Rattle.sheet.specs.Writing.{faultAt, testLines, linesText};
+ghost use Rattle.sheet.specs.Writing.{linesText};
 ghost use Rattle.sheet.specs.Wrote.{Wrote};
-
-// The fault of text line n of a schedule's sheet, or 0.
-fn fault_at(c: Schedule, n: usize) -> u64
-    ensures { λ r. ⌜ r ≡ faultAt c n ⌝ }
-{
-    let l = lines::line_of(lines::natural(c.inputs), n);
-    tests::fault(l, lines::numbers(c, l))
-}
-
-// The first faulty line among the given number of text lines from a first one on.
-pub fn test_lines(c: Schedule, first: usize, count: usize) -> Refusal
-    requires { ⌜ first + count < 2 ^ 63 ⌝ }
-    ensures { λ r. ⌜ r ≡ testLines count first c ⌝ }
-{
-    let mut i = 0;
-    while i < count {
-        let number = fault_at(c, first + i);
-        if number != 0 {
-            return Refusal {
-                number,
-                place: first + i,
-            };
-        }
-        i += 1;
-    }
-    Refusal {
-        number: 0,
-        place: 0,
-    }
-}
 
 // Writes a line of the schedule's sheet.
 fn put_line(out: &mut [u8], at: usize, c: Schedule, l: Line) -> usize
