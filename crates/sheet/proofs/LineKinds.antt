@@ -65,6 +65,16 @@ module _ (inputs n : ℕ) where
       go (no e) (no l) (yes f) = rw (is-step-names f) (step-names f)
       go (no e) (no l) (no f) = let g : inputs + 5 ≤ n = omega (arith, e, l, f) in rw (is-step-line g) (step-line g)
 
+-- which line has the ends of input `i`, and which step `i`
+pub end-line-at : (inputs i : ℕ) → i < inputs → lineOf inputs (4 + i) ≡ EndLine i
+end-line-at inputs i h = let k : 4 + i - 4 ≡ i = omega arith in is-end-line inputs (4 + i) (omega arith) (omega arith) ∙ rw k
+
+pub step-line-at : (inputs i : ℕ) → lineOf inputs (5 + inputs + i) ≡ StepLine i (inputs + i)
+step-line-at inputs i =
+    let a : 5 + inputs + i - 5 - inputs ≡ i = omega arith in
+    let b : 5 + inputs + i - 5 ≡ inputs + i = omega arith in
+    is-step-line inputs (5 + inputs + i) (omega arith) ∙ rw (a, b)
+
 -- a schedule's lists have the room that the limits name
 pub record Shape (c : Schedule) : Type 0 where
   pub ends-room : length (c .ends) ≡ maxInputs
