@@ -6,7 +6,7 @@ use crate::MAX_STEPS;
 use crate::Schedule;
 use crate::Step;
 ghost use mathlib.Core.Path.{_≡_};
-ghost use Prim.Native.Nat.{_+_, _-_, _<_, _^_};
+ghost use Prim.Native.Nat.{_<_, _^_};
 ghost use Rattle.sheet.specs.Lines as Spec;
 ghost use Rattle.sheet.specs.Reading.{padded};
 
