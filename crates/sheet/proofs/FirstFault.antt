@@ -7,7 +7,6 @@ use Prim.Native.Nat.{ℕ, zero, suc, _+_, _-_, _≤_, _<_}
 use native.Mathlib.Nat.{add-zero}
 use native.Mathlib.Omega.{arith}
 use native.Mathlib.Decide.{ℕ-discrete}
-use borrow.Author.Tests.{eq-eqb, ne-eqb}
 use lib.Dec.{eqb, ltb}
 use lib.ListN.{length, drop, length-append, length-drop}
 use lib.IntN.{ℤ}
@@ -28,7 +27,7 @@ use Rattle.sheet.proofs.Choice.{pick-elim}
 use Rattle.sheet.proofs.Prefix.{starts-complete}
 use Rattle.sheet.proofs.FieldLine.{fields-sound, fields-complete, TenDigits, none, behind}
 use Rattle.sheet.proofs.LineKinds.{kind, names-fault, names-store}
-use Rattle.sheet.proofs.LineRead.{firstPart, secondPart, sheet-first, sheet-second, sheet-ends, sheet-goes-on}
+use Rattle.sheet.proofs.LineRead.{run-more, run-stop, run-none, lines-split, firstPart, secondPart, sheet-first, sheet-second, sheet-ends, sheet-goes-on}
 use Rattle.sheet.proofs.SheetRead.{line-sound, line-complete, lines-complete, copied, lines-sound, Within}
 use Rattle.sheet.proofs.CountsRead.{first-sound, first-complete, same-first, counted}
 use Rattle.sheet.proofs.Passing.{CountsPassed}
@@ -84,20 +83,6 @@ pub record RunRefused (k n : ℕ) (c : Schedule) (s : List ℕ) (at : ℕ) : Typ
   pub before : readLines j n c s at .refusal .number ≡ 0
   pub here : readLine (n + j) (readLines j n c s at .schedule) s (readLines j n c s at .next) ≡ readLines k n c s at
 
--- one line of a run
-module _ (k n : ℕ) (c : Schedule) (s : List ℕ) (at : ℕ) where
-  run-more : readLine n c s at .refusal .number ≡ 0 → readLines (suc k) n c s at ≡ readLines k (suc n) (readLine n c s at .schedule) s (readLine n c s at .next)
-  unfolding readLines
-  run-more e = simp (eq-eqb (readLine n c s at .refusal .number) 0 e)
-
-  run-stop : (readLine n c s at .refusal .number ≡ 0 → ⊥) → readLines (suc k) n c s at ≡ readLine n c s at
-  unfolding readLines
-  run-stop e = simp (ne-eqb (readLine n c s at .refusal .number) 0 e)
-
-run-none : (n : ℕ) (c : Schedule) (s : List ℕ) (at : ℕ) → readLines 0 n c s at ≡ partRead at c
-unfolding readLines
-run-none n c s at = refl
-
 lines-refused : (k n : ℕ) (c : Schedule) (s : List ℕ) (at : ℕ) → (readLines k n c s at .refusal .number ≡ 0 → ⊥) → RunRefused k n c s at
 lines-refused zero n c s at z = absurd (z (rw (run-none n c s at)))
 lines-refused (suc k) n c s at z = go (ℕ-discrete (readLine n c s at .refusal .number) 0) (λ d a y. lines-refused k (suc n) d s a y)
@@ -123,22 +108,7 @@ lines-refused (suc k) n c s at z = go (ℕ-discrete (readLine n c s at .refusal 
 
 -- behind an accepted run the reading goes on from there
 lines-append : (j k n : ℕ) (c : Schedule) (s : List ℕ) (at a : ℕ) (d : Schedule) → readLines j n c s at ≡ partRead a d → readLines (j + k) n c s at ≡ readLines k (n + j) d s a
-lines-append zero k n c s at a d e =
-    let u : partRead at c ≡ partRead a d = sym (run-none n c s at) ∙ e in
-    let x : at ≡ a = ap (λ (p : Part). p .next) u in
-    let y : c ≡ d = ap (λ (p : Part). p .schedule) u in
-    let m : 0 + k ≡ k = omega arith in
-    rw (x, y, m, add-zero n)
-lines-append (suc j) k n c s at a d e = go (ℕ-discrete (readLine n c s at .refusal .number) 0) (λ f at′ i. lines-append j k (suc n) f s at′ a d i)
-  where
-    go : Dec (readLine n c s at .refusal .number ≡ 0)
-        → ((f : Schedule) (at′ : ℕ) → readLines j (suc n) f s at′ ≡ partRead a d → readLines (j + k) (suc n) f s at′ ≡ readLines k (suc n + j) d s a)
-        → readLines (suc j + k) n c s at ≡ readLines k (n + suc j) d s a
-    go (yes z) ih =
-        let m : suc j + k ≡ suc (j + k) = omega arith in
-        let i : suc n + j ≡ n + suc j = omega arith in
-        rw m (run-more (j + k) n c s at z ∙ ih (readLine n c s at .schedule) (readLine n c s at .next) (sym (run-more j n c s at z) ∙ e) ∙ rw i)
-    go (no z) ih = absurd (z (ap (λ (p : Part). p .refusal .number) (sym (run-stop j n c s at z) ∙ e)))
+lines-append j k n c s at a d e = lines-split j k n c s at ∙ rw e
 
 -- a refused run tells one of its lines
 line-place : (l : Line) (n : ℕ) (c : Schedule) (s : List ℕ) (at : ℕ) → (readAs l n c s at .refusal .number ≡ 0 → ⊥) → readAs l n c s at .refusal .place ≡ n

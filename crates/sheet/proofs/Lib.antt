@@ -9,6 +9,7 @@ pub mod Prefix
 pub mod FieldLine
 pub mod LineKinds
 pub mod LineRead
+pub mod LineTold
 pub mod Passing
 pub mod SheetText
 pub mod Blocks

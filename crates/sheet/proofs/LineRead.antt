@@ -1,16 +1,18 @@
 -- One line and several lines of a sheet: an equation for each way through the reader's code, and where the next line starts.
-use mathlib.Core.Path.{_≡_, refl, ap}
+use mathlib.Core.Path.{_≡_, refl, ap, _∙_}
 use mathlib.Core.Bool.{true, false}
 use mathlib.Core.List.{List}
-use Prim.Native.Nat.{ℕ, zero, suc, _+_, _-_, _≤_, _<_}
+use Prim.Native.Nat.{ℕ, zero, suc, _+_, _≤_}
+use native.Mathlib.Nat.{add-zero}
 use native.Mathlib.Omega.{arith}
+use native.Mathlib.Decide.{ℕ-discrete}
 use borrow.Author.Tests.{eq-eqb, ne-eqb, eqb-true, eqb-false}
 use lib.Dec.{eqb}
 use lib.ListN.{length, drop, length-drop, length-append}
 use Rattle.sheet.specs.Causes.{refusal, lineBroken}
-use Rattle.sheet.specs.Lines.{zeroSchedule, lineAt, linesLeft, names, width, store}
+use Rattle.sheet.specs.Lines.{natural, zeroSchedule, lineAt, linesLeft, names, width, store}
 use Rattle.sheet.specs.Tests.{fault}
-use Rattle.sheet.specs.Reading.{fieldsAt, starts, partRead, partRefused, valuesRead, readAs, readLine, readLines, readSheet}
+use Rattle.sheet.specs.Reading.{fieldsAt, starts, partRead, partRefused, valuesRead, andThen, readAs, readLine, readLines, readSheet}
 use Rattle.sheet.specs.declared.Schedule.{Schedule}
 use Rattle.sheet.specs.declared.Line.{Line}
 use Rattle.sheet.specs.declared.Line.the-variants.{CountNames, CountLine, EndNames, EndLine, StepNames, StepLine}
@@ -24,9 +26,6 @@ use Rattle.sheet.proofs.FieldLine.{fields-at-within}
 module _ (n : ℕ) (l : Line) (c : Schedule) (f : Fields) where
   pub values-read : f .ok ≡ true → fault l (f .values) ≡ 0 → valuesRead n l c f ≡ partRead (f .next) (store c l (f .values))
   values-read o e = simp (o, eq-eqb (fault l (f .values)) 0 e)
-
-  pub values-faulty : f .ok ≡ true → (fault l (f .values) ≡ 0 → ⊥) → valuesRead n l c f ≡ partRefused (refusal (fault l (f .values)) n)
-  values-faulty o e = simp (o, ne-eqb (fault l (f .values)) 0 e)
 
   pub values-broken : f .ok ≡ false → valuesRead n l c f ≡ partRefused (lineBroken n)
   values-broken o = simp o
@@ -70,28 +69,51 @@ line-read l n c s at h =
     (λ e z. absurd (eqb-false (fault l (f .values)) 0 e z)))
     (λ o z. absurd (omega (arith, z))))
 
--- the loop of `read_lines`: line `first + i` of `count` lines from `first` on
-module _ (s : List ℕ) (count first i at : ℕ) (c : Schedule) where
-  abbrev Q : Part
-  Q = readLine (first + i) c s at
-
-  left : i < count → count - i ≡ suc (count - (i + 1))
-  left h = omega arith
-
-  pub lines-more : i < count → Q .refusal .number ≡ 0
-      → readLines (count - i) (first + i) c s at ≡ readLines (count - (i + 1)) (first + (i + 1)) (Q .schedule) s (Q .next)
+-- one line of a run
+module _ (k n : ℕ) (c : Schedule) (s : List ℕ) (at : ℕ) where
+  pub run-more : readLine n c s at .refusal .number ≡ 0 → readLines (suc k) n c s at ≡ readLines k (suc n) (readLine n c s at .schedule) s (readLine n c s at .next)
   unfolding readLines
-  lines-more h e =
-      let n : suc (first + i) ≡ first + (i + 1) = omega arith in
-      rw (left h) (simp (eq-eqb (Q .refusal .number) 0 e) (rw n))
+  run-more e = simp (eq-eqb (readLine n c s at .refusal .number) 0 e)
 
-  pub lines-stop : i < count → (Q .refusal .number ≡ 0 → ⊥) → readLines (count - i) (first + i) c s at ≡ Q
+  pub run-stop : (readLine n c s at .refusal .number ≡ 0 → ⊥) → readLines (suc k) n c s at ≡ readLine n c s at
   unfolding readLines
-  lines-stop h e = rw (left h) (simp (ne-eqb (Q .refusal .number) 0 e))
+  run-stop e = simp (ne-eqb (readLine n c s at .refusal .number) 0 e)
 
-  pub lines-done : count ≤ i → readLines (count - i) (first + i) c s at ≡ partRead at c
-  unfolding readLines
-  lines-done h = let e : count - i ≡ 0 = omega arith in rw e
+pub run-none : (n : ℕ) (c : Schedule) (s : List ℕ) (at : ℕ) → readLines 0 n c s at ≡ partRead at c
+unfolding readLines
+run-none n c s at = refl
+
+-- a run is its first lines and then the others
+pub lines-split : (j k n : ℕ) (c : Schedule) (s : List ℕ) (at : ℕ) → readLines (j + k) n c s at ≡ andThen (readLines j n c s at) (λ d a. readLines k (n + j) d s a)
+lines-split zero k n c s at = let m : 0 + k ≡ k = omega arith in rw (m, run-none n c s at, add-zero n)
+lines-split (suc j) k n c s at =
+    let q : Part = readLine n c s at in
+    let m : suc j + k ≡ suc (j + k) = omega arith in
+    let i : suc n + j ≡ n + suc j = omega arith in
+    elim (ℕ-discrete (q .refusal .number) 0) [
+      | yes z ↦ rw m (run-more (j + k) n c s at z ∙ lines-split j k (suc n) (q .schedule) s (q .next) ∙ rw (run-more j n c s at z, i))
+      | no z ↦ rw m (run-stop (j + k) n c s at z ∙ rw (run-stop j n c s at z) (simp (ne-eqb (q .refusal .number) 0 z)))
+    ]
+
+-- the lines that the counts ask for are the block of the ends and the block of the steps
+module _ (c : Schedule) (s : List ℕ) (at : ℕ) where
+  abbrev pub endsPart : Part
+  endsPart = readLines (suc (natural (c .inputs))) 3 c s at
+
+  abbrev pub stepsPart : Part
+  stepsPart = readLines (suc (natural (c .steps))) (4 + natural (c .inputs)) (endsPart .schedule) s (endsPart .next)
+
+  blocks : readLines (linesLeft c) 3 c s at ≡ andThen endsPart (λ d a. readLines (suc (natural (c .steps))) (4 + natural (c .inputs)) d s a)
+  blocks =
+      let m : linesLeft c ≡ suc (natural (c .inputs)) + suc (natural (c .steps)) = omega arith in
+      let n : 3 + suc (natural (c .inputs)) ≡ 4 + natural (c .inputs) = omega arith in
+      rw m (lines-split (suc (natural (c .inputs))) (suc (natural (c .steps))) 3 c s at ∙ rw n)
+
+  pub ends-refused : (endsPart .refusal .number ≡ 0 → ⊥) → readLines (linesLeft c) 3 c s at ≡ endsPart
+  ends-refused e = blocks ∙ simp (ne-eqb (endsPart .refusal .number) 0 e)
+
+  pub ends-accepted : endsPart .refusal .number ≡ 0 → readLines (linesLeft c) 3 c s at ≡ stepsPart
+  ends-accepted e = blocks ∙ simp (eq-eqb (endsPart .refusal .number) 0 e)
 
 pub lines-read : (k n : ℕ) (c : Schedule) (s : List ℕ) (at : ℕ) → at ≤ length s → readLines k n c s at .refusal .number ≡ 0 → PartRead s (readLines k n c s at)
 unfolding readLines

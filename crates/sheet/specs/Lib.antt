@@ -6,6 +6,7 @@ pub mod Number
 pub mod Lines
 pub mod Tests
 pub mod Reading
+pub mod LineRead
 pub mod Writing
 pub mod Wrote
 pub mod Same

@@ -6,7 +6,7 @@ use crate::MAX_STEPS;
 use crate::Schedule;
 use crate::Step;
 ghost use mathlib.Core.Path.{_≡_};
-ghost use Prim.Native.Nat.{_+_, _-_, _<_, _^_};
+ghost use Prim.Native.Nat.{_<_, _^_};
 ghost use Rattle.sheet.specs.Lines as Spec;
 ghost use Rattle.sheet.specs.Reading.{padded};
 
@@ -108,28 +108,8 @@ pub fn numbers(c: Schedule, l: Line) -> [i64; 4]
     }
 }
 
-// The schedule with an input's ends put in their place.
-fn with_ends(mut c: Schedule, i: usize, e: End) -> Schedule
-    ensures { λ r. ⌜ r ≡ Spec.withEnds c i e ⌝ }
-{
-    if i < MAX_INPUTS {
-        c.ends[i] = e;
-    }
-    c
-}
-
-// The schedule with a step put in its place.
-fn with_step(mut c: Schedule, i: usize, t: Step) -> Schedule
-    ensures { λ r. ⌜ r ≡ Spec.withStep c i t ⌝ }
-{
-    if i < MAX_STEPS {
-        c.step[i] = t;
-    }
-    c
-}
-
 // The schedule with other counts.
-fn with_counts(c: Schedule, v: [i64; 4]) -> Schedule
+pub fn with_counts(c: Schedule, v: [i64; 4]) -> Schedule
     ensures { λ r. ⌜ r ≡ Spec.withCounts c v ⌝ }
 {
     let ends = c.ends;
@@ -162,19 +142,5 @@ pub fn step_of(v: [i64; 4]) -> Step
         first: v[1],
         second: v[2],
         value: v[3],
-    }
-}
-
-// The schedule with the numbers of a line put in their place.
-pub fn store(c: Schedule, l: Line, v: [i64; 4]) -> Schedule
-    ensures { λ r. ⌜ r ≡ Spec.store c l v ⌝ }
-{
-    match l {
-        Line::CountNames => c,
-        Line::CountLine => with_counts(c, v),
-        Line::EndNames => c,
-        Line::EndLine(i) => with_ends(c, i, ends_of(v)),
-        Line::StepNames => c,
-        Line::StepLine(i, _) => with_step(c, i, step_of(v)),
     }
 }

@@ -6,11 +6,13 @@ use crate::fields;
 use crate::lines;
 use crate::tests;
 ghost use mathlib.Core.Path.{_≡_};
-ghost use Prim.Native.Nat.{_+_, _≤_, _<_, _^_};
+ghost use Prim.Native.Nat.{suc, _+_, _≤_, _<_};
 ghost use lib.ListN.{length, drop};
-ghost use Rattle.sheet.specs.Lines.{width, names};
-ghost use Rattle.sheet.specs.Reading.{starts, partRead, partRefused, valuesRead, fieldsAt, readAs, readLines, readSheet};
+ghost use Rattle.sheet.specs.Limits.{maxInputs, maxSteps};
+ghost use Rattle.sheet.specs.Lines.{zeroSchedule, natural, width, names};
+ghost use Rattle.sheet.specs.Reading.{starts, partRead, partRefused, readLines, readSheet};
 ghost use Rattle.sheet.specs.Causes.{refusal};
+ghost use Rattle.sheet.specs.LineRead.{Told};
 
 // A part of the sheet that was read or refused: where the next line starts, and the schedule so far.
 pub struct Part {
@@ -73,71 +75,143 @@ fn names_length(l: Line) -> usize
     }
 }
 
+// What stands on a line: the cause for which it is refused, or 0; where the next line starts, and the line's numbers.
+pub struct LineRead {
+    pub number: u64,
+    pub next: usize,
+    pub values: [i64; 4],
+}
+
+// A line that breaks the layout.
+fn broken() -> LineRead
+    ensures { λ r. ⌜ r .number ≡ 2 ⌝ }
+{
+    LineRead {
+        number: 2,
+        next: 0,
+        values: [0i64; 4],
+    }
+}
+
 // A line of numbers: its layout first, then its meaning.
-fn read_values(s: &[u8], at: usize, l: Line, n: usize, c: Schedule) -> Part
-    requires { ⌜ at ≤ length (now s) ⌝ }
-    ensures { λ r. ⌜ r ≡ valuesRead n l c (fieldsAt (now (s .entry)) at (width l)) ⌝ }
+fn read_values(s: &[u8], at: usize, l: Line) -> LineRead
+    requires { ⌜ (at ≤ length (now s)) × (0 < width l) ⌝ }
+    ensures { λ r. ⌜ Told (now (s .entry)) at l r ⌝ }
 {
     let f = fields::fields_at(s, at, lines::width(l));
     if f.ok {
         let v = f.values;
-        let number = tests::fault(l, v);
-        if number == 0 {
-            part_read(f.next, lines::store(c, l, v))
-        } else {
-            refused(number, n)
+        LineRead {
+            number: tests::fault(l, v),
+            next: f.next,
+            values: v,
         }
     } else {
-        refused(2, n)
+        broken()
     }
 }
 
-// Text line n, which is a line of kind l.
-fn read_as(s: &[u8], at: usize, l: Line, n: usize, c: Schedule) -> Part
-    requires { ⌜ at ≤ length (now s) ⌝ }
-    ensures { λ r. ⌜ r ≡ readAs l n c (now (s .entry)) at ⌝ }
+// A line of names.
+fn read_names(s: &[u8], at: usize, l: Line) -> LineRead
+    requires { ⌜ (at ≤ length (now s)) × (width l ≡ 0) ⌝ }
+    ensures { λ r. ⌜ Told (now (s .entry)) at l r ⌝ }
 {
-    if lines::width(l) != 0 {
-        return read_values(s, at, l, n, c);
-    }
     if names_stand(s, at, l) {
-        return part_read(at + names_length(l), c);
+        LineRead {
+            number: 0,
+            next: at + names_length(l),
+            values: [0i64; 4],
+        }
+    } else {
+        broken()
     }
-    refused(2, n)
 }
 
-// The given number of text lines from a first one on.
-pub fn read_lines(s: &[u8], at: usize, first: usize, count: usize, c: Schedule) -> Part
-    requires { ⌜ (at ≤ length (now s)) × (first + count < 2 ^ 63) ⌝ }
-    ensures { λ r. ⌜ r ≡ readLines count first c (now (s .entry)) at ⌝ }
+// The names and the counts.
+fn read_counts(s: &[u8]) -> Part
+    ensures { λ r. ⌜ r ≡ readLines 2 1 zeroSchedule (now (s .entry)) 0 ⌝ }
 {
-    let mut p = part_read(at, c);
+    let n = read_names(s, 0, Line::CountNames);
+    if n.number != 0 {
+        return refused(n.number, 1);
+    }
+    let r = read_values(s, n.next, Line::CountLine);
+    if r.number != 0 {
+        return refused(r.number, 2);
+    }
+    let v = r.values;
+    part_read(r.next, lines::with_counts(crate::zero_schedule(), v))
+}
+
+// The names and the lines of the inputs' ends. The schedule is held here and written in place: handed on for each line it would be copied for each.
+fn read_ends(s: &[u8], at: usize, start: Schedule, inputs: usize) -> Part
+    requires { ⌜ (at ≤ length (now s)) × (inputs ≡ natural (start .inputs)) × (inputs ≤ maxInputs) ⌝ }
+    ensures { λ r. ⌜ r ≡ readLines (suc inputs) 3 start (now (s .entry)) at ⌝ }
+{
+    let n = read_names(s, at, Line::EndNames);
+    if n.number != 0 {
+        return refused(n.number, 3);
+    }
+    let mut c = start;
+    let mut next = n.next;
     let mut i = 0;
-    while i < count {
-        let d = p.schedule;
-        let l = lines::line_of(lines::natural(d.inputs), first + i);
-        p = read_as(s, p.next, l, first + i, d);
-        let number = p.refusal.number;
-        if number != 0 {
-            return p;
+    while i < inputs {
+        let r = read_values(s, next, Line::EndLine(i));
+        if r.number != 0 {
+            return refused(r.number, 4 + i);
         }
+        let v = r.values;
+        c.ends[i] = lines::ends_of(v);
+        next = r.next;
         i += 1;
     }
-    p
+    part_read(next, c)
+}
+
+// The names and the lines of the steps, the schedule held here as in `read_ends`.
+fn read_steps(s: &[u8], at: usize, start: Schedule, inputs: usize, steps: usize) -> Part
+    requires { ⌜ (at ≤ length (now s)) × (inputs ≡ natural (start .inputs)) × (inputs ≤ maxInputs) × (steps ≤ maxSteps) ⌝ }
+    ensures { λ r. ⌜ r ≡ readLines (suc steps) (4 + inputs) start (now (s .entry)) at ⌝ }
+{
+    let n = read_names(s, at, Line::StepNames);
+    if n.number != 0 {
+        return refused(n.number, 4 + inputs);
+    }
+    let mut c = start;
+    let mut next = n.next;
+    let mut i = 0;
+    while i < steps {
+        let r = read_values(s, next, Line::StepLine(i, inputs + i));
+        if r.number != 0 {
+            return refused(r.number, 5 + inputs + i);
+        }
+        let v = r.values;
+        c.step[i] = lines::step_of(v);
+        next = r.next;
+        i += 1;
+    }
+    part_read(next, c)
 }
 
 // The whole sheet, and nothing behind it.
 pub fn read_sheet(s: &[u8]) -> Part
     ensures { λ r. ⌜ r ≡ readSheet (now (s .entry)) ⌝ }
 {
-    let p = read_lines(s, 0, 1, 2, crate::zero_schedule());
+    let p = read_counts(s);
     let number = p.refusal.number;
     if number != 0 {
         return p;
     }
     let c = p.schedule;
-    let left = lines::lines_left(c);
-    let q = read_lines(s, p.next, 3, left, c);
+    let inputs = lines::natural(c.inputs);
+    let steps = lines::natural(c.steps);
+    let e = read_ends(s, p.next, c, inputs);
+    let number = e.refusal.number;
+    if number != 0 {
+        return e;
+    }
+    let d = e.schedule;
+    let q = read_steps(s, e.next, d, inputs, steps);
     let number = q.refusal.number;
     if number != 0 {
         return q;
@@ -145,6 +219,6 @@ pub fn read_sheet(s: &[u8]) -> Part
     if q.next == s.len() {
         q
     } else {
-        refused(2, left + 3)
+        refused(2, inputs + steps + 5)
     }
 }

@@ -1,13 +1,10 @@
 -- `read_values` tests the layout, then the meaning.
 use borrow.Author.Needs.{needs}
-use mathlib.Core.Path.{_≡_, sym, ap, _∙_}
-use Prim.Native.Nat.{ℕ}
-use Rattle.sheet.specs.Tests.{fault}
-use Rattle.sheet.specs.Lines.{width, store}
-use Rattle.sheet.specs.Reading.{fieldsAt, valuesRead, partRead, partRefused}
-use Rattle.sheet.specs.Causes.{refusal}
-use Rattle.sheet.specs.declared.Schedule.{Schedule}
-use Rattle.sheet.proofs.LineRead.{values-read, values-faulty, values-broken, width-small}
+use mathlib.Core.Path.{_≡_, _∙_}
+use Rattle.sheet.specs.Lines.{width}
+use Rattle.sheet.specs.Reading.{fieldsAt}
+use Rattle.sheet.proofs.LineRead.{width-small}
+use Rattle.sheet.proofs.LineTold.{values-told, no-values-told}
 use Rattle.sheet.proofs.reader.read_values.Statement.{statement}
 use Rattle.sheet.proofs.reader.read_values.Tie as tie
 
@@ -26,53 +23,23 @@ fields-at-requires c κs =
 fault-requires : tie.Need-fault-requires
 fault-requires c κs = search needs
 
-store-requires : tie.Need-store-requires
-store-requires c κs = search needs
-
-part-read-requires : tie.Need-part-read-requires
-part-read-requires c κs = search needs
-
-refused-requires : tie.Need-refused-requires
-refused-requires c κs = search needs
-
-refused-requires-2 : tie.Need-refused-requires-2
-refused-requires-2 c κs = search needs
+broken-requires : tie.Need-broken-requires
+broken-requires c κs = search needs
 
 returns : tie.Need-returns
 returns c =
-    let a = c .before .before .before .before .before .before .before .before .before .args in
-    let f = c .before .before .before .before .before .before .fields-at .result in
-    let e = fields-are (c .before .before .before .before .before .before) in
-    let t : fault (a .l) (f .values) ≡ 0 = sym (c .before .before .before .fault .ensures) ∙ c .before .before .if2 .taken in
-    c .part-read .ensures ∙ ap (λ (d : Schedule). partRead (f .next) d) (c .before .store .ensures) ∙ sym (values-read (a .n) (a .l) (a .c) f (c .before .before .before .before .before .if1 .taken) t) ∙ ap (valuesRead (a .n) (a .l) (a .c)) e
+    let s = c .before .before .before .before .before .before in
+    let f = c .before .before .before in
+    rw (c .fault .ensures)
+    (values-told (s .args .s .now) (s .args .at) (s .args .l) (f .fields-at .result) (fields-are f) (s .pre .1) (c .before .before .if1 .taken))
 
 returns-2 : tie.Need-returns-2
 returns-2 c =
-    let a = c .before .before .before .before .before .before .before .before .args in
-    let f = c .before .before .before .before .before .fields-at .result in
-    let e = fields-are (c .before .before .before .before .before) in
-    let g = c .before .before .fault .ensures in
-    c .refused .ensures ∙ ap (λ (m : ℕ). partRefused (refusal m (a .n))) g
-    ∙ sym (values-faulty (a .n) (a .l) (a .c) f (c .before .before .before .before .if1 .taken) (λ z. c .before .if2 .left (g ∙ z))) ∙ ap (valuesRead (a .n) (a .l) (a .c)) e
-
-returns-3 : tie.Need-returns-3
-returns-3 c =
-    let a = c .before .before .before .before .before .args in
-    let f = c .before .before .fields-at .result in
-    let e = fields-are (c .before .before) in
-    c .refused2 .ensures ∙ sym (values-broken (a .n) (a .l) (a .c) f (c .before .if1 .left)) ∙ ap (valuesRead (a .n) (a .l) (a .c)) e
+    let s = c .before .before .before .before .before in
+    let f = c .before .before in
+    no-values-told (s .args .s .now) (s .args .at) (s .args .l) (c .broken .result) (c .broken .ensures) (f .fields-at .result) (fields-are f) (s .pre .1) (c .before .if1 .left)
 
 pub read-values-spec : {M : Type 1} → statement M
 read-values-spec =
     tie.close
-    (tie.spec
-    width-requires
-    fields-at-requires
-    fault-requires
-    store-requires
-    part-read-requires
-    refused-requires
-    refused-requires-2
-    returns
-    returns-2
-    returns-3)
+    (tie.spec width-requires fields-at-requires fault-requires broken-requires returns returns-2)
