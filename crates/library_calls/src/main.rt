@@ -9,6 +9,7 @@ use sheet::MAX_STEPS;
 use sheet::Refusal;
 use sheet::Schedule;
 use sheet::Step;
+ghost use mathlib.Core.Path.{_≡_};
 ghost use Prim.Native.Nat.{_≤_};
 ghost use lib.ListN.{length};
 
@@ -249,6 +250,17 @@ fn call(fd: i32, code: u64, schedule: Schedule, table: &mut [i64]) {
     }
 }
 
+// The state before the next call.
+fn going_on(length: usize, schedule: Schedule) -> State
+    ensures { λ r. ⌜ r .length ≡ length ⌝ }
+{
+    State {
+        length,
+        schedule,
+        done: false,
+    }
+}
+
 // Makes the next call: the state after it.
 fn step(fd: i32, table: &mut [i64], state: State) -> State
     requires { ⌜ state .length ≤ length (now table) ⌝ }
@@ -267,27 +279,12 @@ fn step(fd: i32, table: &mut [i64], state: State) -> State
             let length = next_at_most(fd, table.len());
             let value = next_signed(fd);
             fill(&mut table[0..length], value);
-            State {
-                length,
-                schedule,
-                done: false,
-            }
+            going_on(length, schedule)
         }
-        3 => {
-            let schedule = next_schedule(fd);
-            State {
-                length,
-                schedule,
-                done: false,
-            }
-        }
+        3 => going_on(length, next_schedule(fd)),
         _ => {
             call(fd, code, schedule, &mut table[0..length]);
-            State {
-                length,
-                schedule,
-                done: false,
-            }
+            going_on(length, schedule)
         }
     }
 }
