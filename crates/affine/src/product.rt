@@ -155,8 +155,9 @@ pub fn dropped_part<'a, 'b>(
     ensures { λ n. ⌜ n ≡ dropped squares (rowOfParts (pos 0) (now (a .entry)) (now (p .entry))) (rowOfParts (pos 0) (now (b .entry)) (now (q .entry))) ⌝ }
 {
     let all = crate::sums::row_radius(a, p) * crate::sums::row_radius(b, q);
-    let kept = crate::sums::linear_absolutes(a, squares)
-        * crate::sums::linear_absolutes(b, squares);
+    let s = &a[..];
+    let t = &b[..];
+    let kept = crate::sums::absolutes(&s[0..squares]) * crate::sums::absolutes(&t[0..squares]);
     all - kept
 }
 

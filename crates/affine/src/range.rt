@@ -75,7 +75,7 @@ pub fn range_of(r: Row) -> Range
     ensures { λ a. ⌜ (a .low ≡ low r) × (a .high ≡ high r) ⌝ }
 {
     let c = r.centre;
-    let linear = crate::sums::linear_absolutes(&r.linear, SYMBOLS);
+    let linear = crate::sums::absolutes(&r.linear);
     let p = r.pair;
     let below = linear + pairs_below(p);
     let above = linear + pairs_above(p);

@@ -1,25 +1,20 @@
 -- `range::range_of` meets its contract: no end of the range is farther from 0 than the span, so none wraps.
-use mathlib.Core.Path.{_≡_, _∙_, ap₂}
+use mathlib.Core.Path.{_≡_, ap₂}
 use Prim.Native.Nat.{ℕ, _+_, _≤_}
 use native.Mathlib.Omega.{arith}
 use lib.IntN.{pos, _+ℤ_, _-ℤ_}
-use lib.ListN.{length}
 use mir.Syntax.{w64}
 use mir.Val.{SFits, toZ, ofZ}
 use borrow.Author.Needs.{needs}
 use Rattle.integer.specs.Sum.{sumAbs}
 use Rattle.integer.proofs.Absolute.{fits-within}
 use Rattle.integer.proofs.Machine.{operation-fits, operation-gives}
-use Rattle.affine.specs.Limits.{symbols, spanLimit}
+use Rattle.affine.specs.Limits.{spanLimit}
 use Rattle.affine.specs.Row.{low, high}
-use Rattle.affine.proofs.SumLaws.{sumAbs-all}
 use Rattle.affine.proofs.RowSize.{linear-within, pair-within}
 use Rattle.affine.proofs.RangeSize.{reachBelow, reachAbove, reach-below-within, reach-above-within, low-within, high-within}
 use Rattle.affine.proofs.range.range_of.Statement.{statement}
 use Rattle.affine.proofs.range.range_of.Tie as tie
-
-long : (c : tie.Start) → length (c .args .t1 .linear) ≡ symbols
-long c = search needs
 
 centre-fits : (c : tie.Start) → SFits w64 (c .args .t1 .centre)
 centre-fits c = search needs
@@ -52,27 +47,25 @@ high-step c =
     let e = fits-within (high r) spanLimit (high-within r (c .pre)) (omega arith) in
     (operation-fits _+ℤ_ {a = r .centre} {b = pos (reachAbove r)} f g e, operation-gives _+ℤ_ {a = r .centre} {b = pos (reachAbove r)} f g e)
 
-linear-absolutes-requires : tie.Need-linear-absolutes-requires
-linear-absolutes-requires c κs = let s = c .before .before .before in (omega arith, long s, omega (arith, linear-within (s .args .t1) (s .pre)))
+absolutes-requires : tie.Need-absolutes-requires
+absolutes-requires c κs = let s = c .before .before .before .before in omega (arith, linear-within (s .args .t1) (s .pre))
 
 -- what the linear coefficients and the pairs reach together
-abbrev start : tie.After-linear-absolutes → tie.Start
-start c = c .before .before .before .before
+abbrev start : tie.After-absolutes → tie.Start
+start c = c .before .before .before .before .before
 
-linear-is : (c : tie.After-linear-absolutes) → c .linear-absolutes .result ≡ sumAbs (start c .args .t1 .linear)
-linear-is c =
-    let s = start c in
-    c .linear-absolutes .ensures ∙ sumAbs-all (s .args .t1 .linear) symbols (omega (arith, long s))
+linear-is : (c : tie.After-absolutes) → c .absolutes .result ≡ sumAbs (start c .args .t1 .linear)
+linear-is c = c .absolutes .ensures
 
 pairs-below-requires : tie.Need-pairs-below-requires
 pairs-below-requires c κs = let s = start (c .before) in pair-within (s .args .t1) (s .pre)
 
 below-is : (c : tie.After-pairs-below)
-    → c .before .before .linear-absolutes .result + c .pairs-below .result ≡ reachBelow (start (c .before .before) .args .t1)
+    → c .before .before .absolutes .result + c .pairs-below .result ≡ reachBelow (start (c .before .before) .args .t1)
 below-is c = ap₂ _+_ (linear-is (c .before .before)) (c .pairs-below .ensures)
 
 above-is : (c : tie.After-pairs-above)
-    → c .before .before .before .linear-absolutes .result + c .pairs-above .result ≡ reachAbove (start (c .before .before .before) .args .t1)
+    → c .before .before .before .absolutes .result + c .pairs-above .result ≡ reachAbove (start (c .before .before .before) .args .t1)
 above-is c = ap₂ _+_ (linear-is (c .before .before .before)) (c .pairs-above .ensures)
 
 add-below : tie.Need-add-below
@@ -84,17 +77,17 @@ pairs-above-requires c κs = let s = start (c .before .before) in pair-within (s
 add-above : tie.Need-add-above
 add-above c = let s = start (c .before .before .before) in omega (arith, above-is c, reach-above-within (s .args .t1) (s .pre))
 
-cast-t10 : tie.Need-cast-t10
-cast-t10 c = let s = start (c .before .before .before) in rw (below-is (c .before)) (reach-fits (reach-below-within (s .args .t1) (s .pre)))
+cast-t11 : tie.Need-cast-t11
+cast-t11 c = let s = start (c .before .before .before) in rw (below-is (c .before)) (reach-fits (reach-below-within (s .args .t1) (s .pre)))
 
-sub-t11 : tie.Need-sub-t11
-sub-t11 c = let s = start (c .before .before .before) in rw (below-is (c .before)) (low-step s .0)
+sub-t12 : tie.Need-sub-t12
+sub-t12 c = let s = start (c .before .before .before) in rw (below-is (c .before)) (low-step s .0)
 
-cast-t12 : tie.Need-cast-t12
-cast-t12 c = let s = start (c .before .before .before) in rw (above-is c) (reach-fits (reach-above-within (s .args .t1) (s .pre)))
+cast-t13 : tie.Need-cast-t13
+cast-t13 c = let s = start (c .before .before .before) in rw (above-is c) (reach-fits (reach-above-within (s .args .t1) (s .pre)))
 
-add-t13 : tie.Need-add-t13
-add-t13 c = let s = start (c .before .before .before) in rw (above-is c) (high-step s .0)
+add-t14 : tie.Need-add-t14
+add-t14 c = let s = start (c .before .before .before) in rw (above-is c) (high-step s .0)
 
 returns : tie.Need-returns
 returns c = let s = start (c .before .before .before) in (rw (below-is (c .before)) (low-step s .1), rw (above-is c) (high-step s .1))
@@ -103,13 +96,13 @@ pub range-of-spec : {M : Type 1} → statement M
 range-of-spec =
     tie.close
     (tie.spec
-    linear-absolutes-requires
+    absolutes-requires
     pairs-below-requires
     add-below
     pairs-above-requires
     add-above
-    cast-t10
-    sub-t11
-    cast-t12
-    add-t13
+    cast-t11
+    sub-t12
+    cast-t13
+    add-t14
     returns)

@@ -52,7 +52,7 @@ lent c = rw (toZ-ofZ w64 _ (made-fits c)) (c .candidate-row .ensures)
 span-of-requires : tie.Need-span-of-requires
 span-of-requires c κs =
     let m = c .before .before .before .before in
-    (made-long m .0, made-long m .1, span-as (lent m) (candidate-small (m .before)))
+    span-as (lent m) (candidate-small (m .before))
 
 span-is : (c : tie.After-span-of) → c .span-of .result ≡ span (wanted (c .before .before .before .before .before .before))
 span-is c = c .span-of .ensures ∙ ap span (lent (c .before .before .before .before .before))

@@ -1,11 +1,10 @@
 -- `steps::check` meets its contract: by the two results of the span test.
 use mathlib.Core.Path.{_≡_, sym, _∙_}
 use borrow.Author.Tests.{le-leb, lt-leb}
-use lib.ListN.{length}
 use mir.Syntax.{w64}
 use mir.Val.{SFits}
 use mir.ValLaws.{toZ-ofZ}
-use Rattle.affine.specs.Limits.{symbols, pairs, spanLimit}
+use Rattle.affine.specs.Limits.{spanLimit}
 use Rattle.affine.specs.Row.{span}
 use Rattle.affine.proofs.Answers.{checked-within, checked-passed}
 use borrow.Author.Needs.{needs}
@@ -15,13 +14,10 @@ use Rattle.affine.proofs.steps.check.Tie as tie
 centre-fits : (c : tie.Start) → SFits w64 (c .args .t1 .centre)
 centre-fits c = search needs
 
-long : (c : tie.Start) → (length (c .args .t1 .linear) ≡ symbols) × (length (c .args .t1 .pair) ≡ pairs)
-long c = search needs
-
 span-of-requires : tie.Need-span-of-requires
 span-of-requires c κs =
     let s = c .before .before .before .before in
-    rw (toZ-ofZ w64 _ (centre-fits s)) (long s .0, long s .1, s .pre)
+    rw (toZ-ofZ w64 _ (centre-fits s)) (s .pre)
 
 span-is : (c : tie.After-span-of) → c .span-of .result ≡ span (c .before .before .before .before .before .args .t1)
 span-is c = rw (toZ-ofZ w64 _ (centre-fits (c .before .before .before .before .before))) at (c .span-of .ensures)

@@ -20,7 +20,7 @@ absolute-requires c κs = search needs
 row-radius-requires : tie.Need-row-radius-requires
 row-radius-requires c κs =
     let s = c .before in
-    (s .pre .0, s .pre .1, omega (arith, span-is-sum (row s), s .pre .2))
+    omega (arith, span-is-sum (row s), s .pre)
 
 sum-is : (c : tie.After-row-radius) → c .before .absolute .result + c .row-radius .result ≡ span (row (c .before .before))
 sum-is c =
@@ -29,7 +29,7 @@ sum-is c =
     ∙ sym (span-is-sum (row s))
 
 add-result : tie.Need-add-result
-add-result c = rw (sum-is c) (record { fits = c .before .before .pre .2 })
+add-result c = rw (sum-is c) (record { fits = c .before .before .pre })
 
 returns : tie.Need-returns
 returns c = sum-is c

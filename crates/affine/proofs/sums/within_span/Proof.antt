@@ -10,25 +10,26 @@ use Rattle.affine.proofs.RowSize.{span-is-sum}
 use Rattle.affine.proofs.sums.within_span.Statement.{statement}
 use Rattle.affine.proofs.sums.within_span.Tie as tie
 
-centre : (c : tie.Start) → SFits w64 (c .args .r .centre)
+centre : (c : tie.Start) → SFits w64 (c .args .t1 .centre)
 centre c = search needs
 
 capped-sum-requires : tie.Need-capped-sum-requires
 capped-sum-requires c κs = search needs
 
-linear-capped-requires : tie.Need-linear-capped-requires
-linear-capped-requires c κs = rw (c .capped-sum .ensures) (capped-le _)
+capped-absolutes-requires : tie.Need-capped-absolutes-requires
+capped-absolutes-requires c κs = rw (c .before .before .before .capped-sum .ensures) (capped-le _)
 
-pair-capped-requires : tie.Need-pair-capped-requires
-pair-capped-requires c κs = rw (c .linear-capped .ensures) (capped-le _)
+capped-absolutes-requires-2 : tie.Need-capped-absolutes-requires-2
+capped-absolutes-requires-2 c κs = rw (c .before .before .before .capped-absolutes .ensures) (capped-le _)
 
 returns : tie.Need-returns
 returns c =
-    let s = c .before .before .before .before .before .before in
-    let r = s .args .r in
-    rw (c .pair-capped .ensures, c .before .linear-capped .ensures, c .before .before .capped-sum .ensures, toZ-ofZ w64 (r .centre) (centre s), span-is-sum r)
+    let l = c .before .before .before .before in
+    let s = l .before .before .before .before .before .before in
+    let r = s .args .t1 in
+    rw (c .capped-absolutes2 .ensures, l .capped-absolutes .ensures, l .before .before .before .before .capped-sum .ensures, toZ-ofZ w64 (r .centre) (centre s), span-is-sum r)
     (capped-parts (natAbs (r .centre)) (sumAbs (r .linear)) (sumAbs (r .pair)))
 
 pub within-span-spec : {M : Type 1} → statement M
 within-span-spec =
-    tie.close (tie.spec capped-sum-requires linear-capped-requires pair-capped-requires returns)
+    tie.close (tie.spec capped-sum-requires capped-absolutes-requires capped-absolutes-requires-2 returns)

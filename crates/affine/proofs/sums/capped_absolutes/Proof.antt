@@ -1,23 +1,18 @@
--- `sums::linear_capped` meets its contract: the loop keeps the stopped sum of the absolute values passed.
-use mathlib.Core.Path.{_≡_}
+-- `sums::capped_absolutes` meets its contract: the loop keeps the stopped sum of the absolute values passed.
+use mathlib.Core.Path.{refl}
 use Prim.Native.Nat.{_-_}
 use lib.ListN.{length}
 use borrow.Author.Needs.{needs}
 use Rattle.integer.proofs.Machine.{back}
-use Rattle.affine.specs.Limits.{symbols}
-use Rattle.affine.specs.Lists.{at}
 use Rattle.affine.proofs.CappedLaws.{Capped, capped-none, capped-more, capped-stays, capped-all}
-use Rattle.affine.proofs.sums.linear_capped.Statement.{statement}
-use Rattle.affine.proofs.sums.linear_capped.Tie as tie
+use Rattle.affine.proofs.sums.capped_absolutes.Statement.{statement}
+use Rattle.affine.proofs.sums.capped_absolutes.Tie as tie
 
 abbrev Inv-loop : tie.InvT-loop
-Inv-loop start a sum₀ i₀ sum i = Capped symbols a start i sum
+Inv-loop start a sum₀ i₀ sum i = Capped (length a) a start i sum
 
 abbrev μ-loop : tie.MeasureT-loop
-μ-loop start a sum₀ i₀ sum i = symbols - i
-
-long : (c : tie.Start Inv-loop μ-loop) → length (c .args .t2) ≡ symbols
-long c = search needs
+μ-loop start a sum₀ i₀ sum i = length a - i
 
 loop-holds : tie.Need-loop-holds Inv-loop μ-loop
 loop-holds c = capped-none _ _ (c .pre)
@@ -25,8 +20,8 @@ loop-holds c = capped-none _ _ (c .pre)
 mul-v : tie.Need-mul-v Inv-loop μ-loop
 mul-v c = search needs
 
-array-copy-out-v : tie.Need-array-copy-out-v Inv-loop μ-loop
-array-copy-out-v c = search needs
+shared-slice-copy-out-v : tie.Need-shared-slice-copy-out-v Inv-loop μ-loop
+shared-slice-copy-out-v c = search needs
 
 capped-sum-requires : tie.Need-capped-sum-requires Inv-loop μ-loop
 capped-sum-requires c κs = capped-stays (c .before .before .loop .inv)
@@ -41,20 +36,20 @@ loop-again : tie.Need-loop-again Inv-loop μ-loop
 loop-again c =
     let o = c .before .before .before in
     let e = rw (back (c .before .v .given)) at (c .capped-sum .ensures) in
-    capped-more (o .loop .inv) (c .before .before .loop-test .taken) (long (o .before)) e
+    capped-more (o .loop .inv) (c .before .before .loop-test .taken) refl e
 
 returns : tie.Need-returns Inv-loop μ-loop
-returns c = capped-all (c .before .loop .inv) (long (c .before .before)) (c .loop-test .left)
+returns c = capped-all (c .before .loop .inv) refl (c .loop-test .left)
 
-pub linear-capped-spec : {M : Type 1} → statement M
-linear-capped-spec =
+pub capped-absolutes-spec : {M : Type 1} → statement M
+capped-absolutes-spec =
     tie.close
     (tie.spec
     Inv-loop
     μ-loop
     loop-holds
     mul-v
-    array-copy-out-v
+    shared-slice-copy-out-v
     capped-sum-requires
     add-i
     loop-less
