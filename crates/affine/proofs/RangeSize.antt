@@ -1,6 +1,6 @@
 -- How far the pairs of a row go below and above 0: by test, and never farther than their absolute coefficients; so neither end of a range is
 -- farther from 0 than the span. By cases and induction.
-use mathlib.Core.Path.{_≡_, refl, ap}
+use mathlib.Core.Path.{_≡_, refl, sym, ap, _∙_}
 use mathlib.Core.Bool.{Bool, true, false}
 use mathlib.Core.List.{List}
 use Prim.Native.Nat.{ℕ, _+_, _≤_, _<_}
@@ -17,7 +17,7 @@ use Rattle.affine.specs.Lists.{pick, at, tabulate, sum}
 use Rattle.affine.specs.PairOrder.{isSquare}
 use Rattle.affine.specs.Row.{pairBelow, pairAbove, pairsBelow, pairsAbove, span, low, high}
 use Rattle.affine.proofs.Lists.{length-tabulate, at-tabulate}
-use Rattle.affine.proofs.SumLaws.{sumAbs-tabulate, sum-tabulate-le}
+use Rattle.affine.proofs.SumLaws.{Summed, summed-more, summed-within, summed-whole, sumAbs-tabulate, sum-tabulate-le}
 use Rattle.affine.proofs.RowSize.{span-is-sum}
 
 -- ---- by the tests of the code
@@ -34,38 +34,51 @@ pairAbove-test true (negsuc n) = refl
 pairAbove-test false v = refl
 
 -- ---- never farther than the absolute coefficient
-pairBelow-le : (square : Bool) (v : ℤ) → pairBelow square v ≤ natAbs v
+pub pairBelow-le : (square : Bool) (v : ℤ) → pairBelow square v ≤ natAbs v
 unfolding pairBelow
 pairBelow-le true (pos n) = omega arith
 pairBelow-le true (negsuc n) = omega arith
 pairBelow-le false v = omega arith
 
-pairAbove-le : (square : Bool) (v : ℤ) → pairAbove square v ≤ natAbs v
+pub pairAbove-le : (square : Bool) (v : ℤ) → pairAbove square v ≤ natAbs v
 unfolding pairAbove
 pairAbove-le true (pos n) = omega arith
 pairAbove-le true (negsuc n) = omega arith
 pairAbove-le false v = omega arith
 
--- ---- the reaches of all pairs: as the list of whole numbers that a loop sums, and none above its coefficient
-module _ (reach : Bool → ℤ → ℕ) where
-  unfoldable pub reaches : List ℤ → List ℤ
-  reaches p = tabulate pairs (λ k. pos (reach (isSquare k) (at p k)))
+-- ---- the reaches of all pairs, one of `pairBelow` and `pairAbove`: none above its coefficient, and what a loop has summed so far
+module _ (reach : Bool → ℤ → ℕ) (le : (square : Bool) (v : ℤ) → reach square v ≤ natAbs v) (p : List ℤ) where
+  abbrev pub sumOfReaches : ℕ
+  sumOfReaches = sum (tabulate pairs (λ k. reach (isSquare k) (at p k)))
 
-  pub length-reaches : (p : List ℤ) → length (reaches p) ≡ pairs
+  pub sum-reaches-le : sumOfReaches ≤ sumAbs p
+  sum-reaches-le = sum-tabulate-le pairs _ p (λ k. le (isSquare k) (at p k))
+
+  -- as the list of whole numbers that the loop sums
+  unfoldable pub reaches : List ℤ
+  reaches = tabulate pairs (λ k. pos (reach (isSquare k) (at p k)))
+
+  length-reaches : length reaches ≡ pairs
   unfolding reaches
-  length-reaches p = length-tabulate pairs _
+  length-reaches = length-tabulate pairs _
 
-  pub at-reaches : (p : List ℤ) (k : ℕ) → k < pairs → natAbs (at (reaches p) k) ≡ reach (isSquare k) (at p k)
+  sum-reaches : sumAbs reaches ≡ sumOfReaches
   unfolding reaches
-  at-reaches p k h = ap natAbs (at-tabulate pairs _ k h)
+  sum-reaches = sumAbs-tabulate pairs _
 
-  pub sum-reaches : (p : List ℤ) → sumAbs (reaches p) ≡ sum (tabulate pairs (λ k. reach (isSquare k) (at p k)))
-  unfolding reaches
-  sum-reaches p = sumAbs-tabulate pairs _
+  module _ {k total m : ℕ} (s : Summed pairs reaches k total) (h : k < pairs) (e : m ≡ reach (isSquare k) (at p k)) where
+    added : m ≡ natAbs (at reaches k)
+    unfolding reaches
+    added = e ∙ ap natAbs (sym (at-tabulate pairs _ k h))
 
-  sum-reaches-le : ((square : Bool) (v : ℤ) → reach square v ≤ natAbs v) → (p : List ℤ)
-      → sum (tabulate pairs (λ k. reach (isSquare k) (at p k))) ≤ sumAbs p
-  sum-reaches-le le p = sum-tabulate-le pairs _ p (λ k. le (isSquare k) (at p k))
+    pub reach-more : Summed pairs reaches (k + 1) (total + m)
+    reach-more = summed-more s h (omega (arith, length-reaches)) added
+
+    pub reach-fits : total + m ≤ sumAbs p
+    reach-fits = omega (arith, summed-within s h (omega (arith, length-reaches)) added, sum-reaches, sum-reaches-le)
+
+  pub reach-all : {k total : ℕ} → Summed pairs reaches k total → pairs ≤ k → total ≡ sumOfReaches
+  reach-all s h = summed-whole s h length-reaches ∙ sum-reaches
 
 pub pairsBelow-le : (p : List ℤ) → pairsBelow p ≤ sumAbs p
 unfolding pairsBelow

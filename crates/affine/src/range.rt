@@ -7,7 +7,8 @@ use crate::pair_order::second_of;
 ghost use mathlib.Core.Path.{_≡_};
 ghost use Prim.Native.Nat.{_≤_};
 ghost use Rattle.integer.specs.Sum.{sumAbs};
-ghost use Rattle.affine.specs.Limits.{spanLimit};
+ghost use lib.ListN.{length};
+ghost use Rattle.affine.specs.Limits.{pairs, spanLimit};
 ghost use Rattle.affine.specs.Row.{span, pairBelow, pairAbove, pairsBelow, pairsAbove, low, high};
 
 pub struct Range {
@@ -37,36 +38,28 @@ fn pair_above(square: bool, v: i64) -> u64
     }
 }
 
-fn pairs_below(p: [i64; PAIRS]) -> u64
-    requires { ⌜ sumAbs p ≤ spanLimit ⌝ }
-    ensures { λ r. ⌜ r ≡ pairsBelow p ⌝ }
-{
-    let mut sum: u64 = 0;
-    let mut k: usize = 0;
-    while k < PAIRS {
-        let v = p[k];
-        let i = first_of(k);
-        let j = second_of(k);
-        sum += pair_below(i == j, v);
-        k += 1;
-    }
-    sum
+// How far the terms of all pairs go below 0, and above it.
+pub struct Reach {
+    pub below: u64,
+    pub above: u64,
 }
 
-fn pairs_above(p: [i64; PAIRS]) -> u64
-    requires { ⌜ sumAbs p ≤ spanLimit ⌝ }
-    ensures { λ r. ⌜ r ≡ pairsAbove p ⌝ }
+fn pairs_reach(p: &[i64; PAIRS]) -> Reach
+    requires { ⌜ (length (now p) ≡ pairs) × (sumAbs (now p) ≤ spanLimit) ⌝ }
+    ensures { λ r. ⌜ (r .below ≡ pairsBelow (now (p .entry))) × (r .above ≡ pairsAbove (now (p .entry))) ⌝ }
 {
-    let mut sum: u64 = 0;
+    let mut below: u64 = 0;
+    let mut above: u64 = 0;
     let mut k: usize = 0;
     while k < PAIRS {
         let v = p[k];
         let i = first_of(k);
         let j = second_of(k);
-        sum += pair_above(i == j, v);
+        below += pair_below(i == j, v);
+        above += pair_above(i == j, v);
         k += 1;
     }
-    sum
+    Reach { below, above }
 }
 
 // The range of a row within the span limit.
@@ -76,9 +69,9 @@ pub fn range_of(r: Row) -> Range
 {
     let c = r.centre;
     let linear = crate::sums::absolutes(&r.linear);
-    let p = r.pair;
-    let below = linear + pairs_below(p);
-    let above = linear + pairs_above(p);
+    let pair = pairs_reach(&r.pair);
+    let below = linear + pair.below;
+    let above = linear + pair.above;
     Range {
         low: c - below as i64,
         high: c + above as i64,

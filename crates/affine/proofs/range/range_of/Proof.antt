@@ -3,13 +3,13 @@ use mathlib.Core.Path.{_≡_, ap₂}
 use Prim.Native.Nat.{ℕ, _+_, _≤_}
 use native.Mathlib.Omega.{arith}
 use lib.IntN.{pos, _+ℤ_, _-ℤ_}
+use lib.ListN.{length}
 use mir.Syntax.{w64}
 use mir.Val.{SFits, toZ, ofZ}
 use borrow.Author.Needs.{needs}
-use Rattle.integer.specs.Sum.{sumAbs}
 use Rattle.integer.proofs.Absolute.{fits-within}
 use Rattle.integer.proofs.Machine.{operation-fits, operation-gives}
-use Rattle.affine.specs.Limits.{spanLimit}
+use Rattle.affine.specs.Limits.{pairs, spanLimit}
 use Rattle.affine.specs.Row.{low, high}
 use Rattle.affine.proofs.RowSize.{linear-within, pair-within}
 use Rattle.affine.proofs.RangeSize.{reachBelow, reachAbove, reach-below-within, reach-above-within, low-within, high-within}
@@ -50,56 +50,57 @@ high-step c =
 absolutes-requires : tie.Need-absolutes-requires
 absolutes-requires c κs = let s = c .before .before .before .before in omega (arith, linear-within (s .args .t1) (s .pre))
 
+pair-long : (c : tie.Start) → length (c .args .t1 .pair) ≡ pairs
+pair-long c = search needs
+
+pairs-reach-requires : tie.Need-pairs-reach-requires
+pairs-reach-requires c κs = let s = c .before .before .before .before .before .before .before in (pair-long s, pair-within (s .args .t1) (s .pre))
+
 -- what the linear coefficients and the pairs reach together
-abbrev start : tie.After-absolutes → tie.Start
-start c = c .before .before .before .before .before
+abbrev start : tie.After-pairs-reach → tie.Start
+start c = c .before .before .before .before .before .before .before .before
 
-linear-is : (c : tie.After-absolutes) → c .absolutes .result ≡ sumAbs (start c .args .t1 .linear)
-linear-is c = c .absolutes .ensures
+below-is : (c : tie.After-pairs-reach) → c .before .before .before .absolutes .result + c .pairs-reach .result .below ≡ reachBelow (start c .args .t1)
+below-is c = ap₂ _+_ (c .before .before .before .absolutes .ensures) (c .pairs-reach .ensures .0)
 
-pairs-below-requires : tie.Need-pairs-below-requires
-pairs-below-requires c κs = let s = start (c .before) in pair-within (s .args .t1) (s .pre)
+above-is : (c : tie.After-pairs-reach) → c .before .before .before .absolutes .result + c .pairs-reach .result .above ≡ reachAbove (start c .args .t1)
+above-is c = ap₂ _+_ (c .before .before .before .absolutes .ensures) (c .pairs-reach .ensures .1)
 
-below-is : (c : tie.After-pairs-below)
-    → c .before .before .absolutes .result + c .pairs-below .result ≡ reachBelow (start (c .before .before) .args .t1)
-below-is c = ap₂ _+_ (linear-is (c .before .before)) (c .pairs-below .ensures)
+-- both reaches fit
+below-fits : (c : tie.After-pairs-reach) → reachBelow (start c .args .t1) ≤ spanLimit
+below-fits c = let s = start c in reach-below-within (s .args .t1) (s .pre)
 
-above-is : (c : tie.After-pairs-above)
-    → c .before .before .before .absolutes .result + c .pairs-above .result ≡ reachAbove (start (c .before .before .before) .args .t1)
-above-is c = ap₂ _+_ (linear-is (c .before .before .before)) (c .pairs-above .ensures)
+above-fits : (c : tie.After-pairs-reach) → reachAbove (start c .args .t1) ≤ spanLimit
+above-fits c = let s = start c in reach-above-within (s .args .t1) (s .pre)
 
 add-below : tie.Need-add-below
-add-below c = let s = start (c .before .before) in omega (arith, below-is c, reach-below-within (s .args .t1) (s .pre))
-
-pairs-above-requires : tie.Need-pairs-above-requires
-pairs-above-requires c κs = let s = start (c .before .before) in pair-within (s .args .t1) (s .pre)
+add-below c = let p = c .before in omega (arith, below-is p, below-fits p)
 
 add-above : tie.Need-add-above
-add-above c = let s = start (c .before .before .before) in omega (arith, above-is c, reach-above-within (s .args .t1) (s .pre))
+add-above c = let p = c .before .before in omega (arith, above-is p, above-fits p)
 
 cast-t11 : tie.Need-cast-t11
-cast-t11 c = let s = start (c .before .before .before) in rw (below-is (c .before)) (reach-fits (reach-below-within (s .args .t1) (s .pre)))
+cast-t11 c = let p = c .before .before in rw (below-is p) (reach-fits (below-fits p))
 
 sub-t12 : tie.Need-sub-t12
-sub-t12 c = let s = start (c .before .before .before) in rw (below-is (c .before)) (low-step s .0)
+sub-t12 c = let p = c .before .before in rw (below-is p) (low-step (start p) .0)
 
 cast-t13 : tie.Need-cast-t13
-cast-t13 c = let s = start (c .before .before .before) in rw (above-is c) (reach-fits (reach-above-within (s .args .t1) (s .pre)))
+cast-t13 c = let p = c .before .before in rw (above-is p) (reach-fits (above-fits p))
 
 add-t14 : tie.Need-add-t14
-add-t14 c = let s = start (c .before .before .before) in rw (above-is c) (high-step s .0)
+add-t14 c = let p = c .before .before in rw (above-is p) (high-step (start p) .0)
 
 returns : tie.Need-returns
-returns c = let s = start (c .before .before .before) in (rw (below-is (c .before)) (low-step s .1), rw (above-is c) (high-step s .1))
+returns c = let p = c .before .before in (rw (below-is p) (low-step (start p) .1), rw (above-is p) (high-step (start p) .1))
 
 pub range-of-spec : {M : Type 1} → statement M
 range-of-spec =
     tie.close
     (tie.spec
     absolutes-requires
-    pairs-below-requires
+    pairs-reach-requires
     add-below
-    pairs-above-requires
     add-above
     cast-t11
     sub-t12
