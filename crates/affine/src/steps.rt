@@ -8,8 +8,9 @@ use crate::limits::SYMBOLS;
 ghost use mathlib.Core.Path.{_≡_};
 ghost use Prim.Native.Nat.{_^_, _≤_, _<_};
 ghost use lib.IntN.{natAbs, _+ℤ_, _-ℤ_};
+ghost use lib.ListN.{length};
 ghost use Rattle.integer.specs.Sum.{sumAbs};
-ghost use Rattle.affine.specs.Limits.{symbols, pairs, spanLimit};
+ghost use Rattle.affine.specs.Limits.{symbols, spanLimit};
 ghost use Rattle.affine.specs.Lists.{at, tabulate};
 ghost use Rattle.affine.specs.Row.{span};
 ghost use Rattle.affine.specs.Steps.{constantRow, inputRow, addRows, subtractRows, refused, checked};
@@ -66,76 +67,44 @@ pub fn input(own: usize, low: i64, high: i64) -> Answer
     check(row)
 }
 
-fn linear_sum(a: [i64; SYMBOLS], b: [i64; SYMBOLS]) -> [i64; SYMBOLS]
-    requires { ⌜ (sumAbs a ≤ spanLimit) × (sumAbs b ≤ spanLimit) ⌝ }
-    ensures { λ r. ⌜ r ≡ tabulate symbols (λ i. at a i +ℤ at b i) ⌝ }
+// Puts the sums of two lists' numbers.
+fn put_sums<'a, 'b>(out: &mut [i64], a: &'a [i64], b: &'b [i64])
+    requires { ⌜ (length (now a) ≡ length (now out)) × (length (now b) ≡ length (now out)) ⌝ }
+    requires { ⌜ (sumAbs (now a) ≤ spanLimit) × (sumAbs (now b) ≤ spanLimit) ⌝ }
+    ensures { λ r. ⌜ now (out .exit) ≡ tabulate (length (now (out .entry))) (λ i. at (now (a .entry)) i +ℤ at (now (b .entry)) i) ⌝ }
 {
-    let mut out = [0i64; SYMBOLS];
     let mut i: usize = 0;
-    while i < SYMBOLS {
+    while i < out.len() {
         let v = a[i];
         let w = b[i];
         out[i] = v + w;
         i += 1;
     }
-    out
 }
 
-fn pair_sum(p: [i64; PAIRS], q: [i64; PAIRS]) -> [i64; PAIRS]
-    requires { ⌜ (sumAbs p ≤ spanLimit) × (sumAbs q ≤ spanLimit) ⌝ }
-    ensures { λ r. ⌜ r ≡ tabulate pairs (λ k. at p k +ℤ at q k) ⌝ }
+// Puts the differences of two lists' numbers.
+fn put_differences<'a, 'b>(out: &mut [i64], a: &'a [i64], b: &'b [i64])
+    requires { ⌜ (length (now a) ≡ length (now out)) × (length (now b) ≡ length (now out)) ⌝ }
+    requires { ⌜ (sumAbs (now a) ≤ spanLimit) × (sumAbs (now b) ≤ spanLimit) ⌝ }
+    ensures { λ r. ⌜ now (out .exit) ≡ tabulate (length (now (out .entry))) (λ i. at (now (a .entry)) i -ℤ at (now (b .entry)) i) ⌝ }
 {
-    let mut out = [0i64; PAIRS];
-    let mut k: usize = 0;
-    while k < PAIRS {
-        let v = p[k];
-        let w = q[k];
-        out[k] = v + w;
-        k += 1;
-    }
-    out
-}
-
-fn linear_difference(a: [i64; SYMBOLS], b: [i64; SYMBOLS]) -> [i64; SYMBOLS]
-    requires { ⌜ (sumAbs a ≤ spanLimit) × (sumAbs b ≤ spanLimit) ⌝ }
-    ensures { λ r. ⌜ r ≡ tabulate symbols (λ i. at a i -ℤ at b i) ⌝ }
-{
-    let mut out = [0i64; SYMBOLS];
     let mut i: usize = 0;
-    while i < SYMBOLS {
+    while i < out.len() {
         let v = a[i];
         let w = b[i];
         out[i] = v - w;
         i += 1;
     }
-    out
-}
-
-fn pair_difference(p: [i64; PAIRS], q: [i64; PAIRS]) -> [i64; PAIRS]
-    requires { ⌜ (sumAbs p ≤ spanLimit) × (sumAbs q ≤ spanLimit) ⌝ }
-    ensures { λ r. ⌜ r ≡ tabulate pairs (λ k. at p k -ℤ at q k) ⌝ }
-{
-    let mut out = [0i64; PAIRS];
-    let mut k: usize = 0;
-    while k < PAIRS {
-        let v = p[k];
-        let w = q[k];
-        out[k] = v - w;
-        k += 1;
-    }
-    out
 }
 
 pub fn add(x: Row, y: Row) -> Answer
     requires { ⌜ (span x ≤ spanLimit) × (span y ≤ spanLimit) ⌝ }
     ensures { λ r. ⌜ r ≡ checked (addRows x y) ⌝ }
 {
-    let a = x.linear;
-    let b = y.linear;
-    let p = x.pair;
-    let q = y.pair;
-    let linear = linear_sum(a, b);
-    let pair = pair_sum(p, q);
+    let mut linear = [0i64; SYMBOLS];
+    put_sums(&mut linear, &x.linear, &y.linear);
+    let mut pair = [0i64; PAIRS];
+    put_sums(&mut pair, &x.pair, &y.pair);
     let sum = Row {
         centre: x.centre + y.centre,
         linear,
@@ -149,12 +118,10 @@ pub fn subtract(x: Row, y: Row) -> Answer
     requires { ⌜ (span x ≤ spanLimit) × (span y ≤ spanLimit) ⌝ }
     ensures { λ r. ⌜ r ≡ checked (subtractRows x y) ⌝ }
 {
-    let a = x.linear;
-    let b = y.linear;
-    let p = x.pair;
-    let q = y.pair;
-    let linear = linear_difference(a, b);
-    let pair = pair_difference(p, q);
+    let mut linear = [0i64; SYMBOLS];
+    put_differences(&mut linear, &x.linear, &y.linear);
+    let mut pair = [0i64; PAIRS];
+    put_differences(&mut pair, &x.pair, &y.pair);
     let difference = Row {
         centre: x.centre - y.centre,
         linear,

@@ -56,15 +56,21 @@ pair-long c = search needs
 pairs-reach-requires : tie.Need-pairs-reach-requires
 pairs-reach-requires c κs = let s = c .before .before .before .before .before .before .before in (pair-long s, pair-within (s .args .t1) (s .pre))
 
+pairs-reach-requires-2 : tie.Need-pairs-reach-requires-2
+pairs-reach-requires-2 c κs = let s = c .before .before .before .before .before .before .before .before .before .before in (pair-long s, pair-within (s .args .t1) (s .pre))
+
 -- what the linear coefficients and the pairs reach together
 abbrev start : tie.After-pairs-reach → tie.Start
 start c = c .before .before .before .before .before .before .before .before
 
-below-is : (c : tie.After-pairs-reach) → c .before .before .before .absolutes .result + c .pairs-reach .result .below ≡ reachBelow (start c .args .t1)
-below-is c = ap₂ _+_ (c .before .before .before .absolutes .ensures) (c .pairs-reach .ensures .0)
+below-is : (c : tie.After-pairs-reach) → c .before .before .before .absolutes .result + c .pairs-reach .result ≡ reachBelow (start c .args .t1)
+below-is c = ap₂ _+_ (c .before .before .before .absolutes .ensures) (c .pairs-reach .ensures)
 
-above-is : (c : tie.After-pairs-reach) → c .before .before .before .absolutes .result + c .pairs-reach .result .above ≡ reachAbove (start c .args .t1)
-above-is c = ap₂ _+_ (c .before .before .before .absolutes .ensures) (c .pairs-reach .ensures .1)
+abbrev after-below : tie.After-pairs-reach2 → tie.After-pairs-reach
+after-below c = c .before .before .before
+
+above-is : (c : tie.After-pairs-reach2) → after-below c .before .before .before .absolutes .result + c .pairs-reach2 .result ≡ reachAbove (start (after-below c) .args .t1)
+above-is c = ap₂ _+_ (after-below c .before .before .before .absolutes .ensures) (c .pairs-reach2 .ensures)
 
 -- both reaches fit
 below-fits : (c : tie.After-pairs-reach) → reachBelow (start c .args .t1) ≤ spanLimit
@@ -74,25 +80,25 @@ above-fits : (c : tie.After-pairs-reach) → reachAbove (start c .args .t1) ≤ 
 above-fits c = let s = start c in reach-above-within (s .args .t1) (s .pre)
 
 add-below : tie.Need-add-below
-add-below c = let p = c .before in omega (arith, below-is p, below-fits p)
+add-below c = omega (arith, below-is c, below-fits c)
 
 add-above : tie.Need-add-above
-add-above c = let p = c .before .before in omega (arith, above-is p, above-fits p)
+add-above c = omega (arith, above-is c, above-fits (after-below c))
 
-cast-t11 : tie.Need-cast-t11
-cast-t11 c = let p = c .before .before in rw (below-is p) (reach-fits (below-fits p))
+cast-t12 : tie.Need-cast-t12
+cast-t12 c = let p = after-below c in rw (below-is p) (reach-fits (below-fits p))
 
-sub-t12 : tie.Need-sub-t12
-sub-t12 c = let p = c .before .before in rw (below-is p) (low-step (start p) .0)
+sub-t13 : tie.Need-sub-t13
+sub-t13 c = let p = after-below c in rw (below-is p) (low-step (start p) .0)
 
-cast-t13 : tie.Need-cast-t13
-cast-t13 c = let p = c .before .before in rw (above-is p) (reach-fits (above-fits p))
+cast-t14 : tie.Need-cast-t14
+cast-t14 c = rw (above-is c) (reach-fits (above-fits (after-below c)))
 
-add-t14 : tie.Need-add-t14
-add-t14 c = let p = c .before .before in rw (above-is p) (high-step (start p) .0)
+add-t15 : tie.Need-add-t15
+add-t15 c = rw (above-is c) (high-step (start (after-below c)) .0)
 
 returns : tie.Need-returns
-returns c = let p = c .before .before in (rw (below-is p) (low-step (start p) .1), rw (above-is p) (high-step (start p) .1))
+returns c = let p = after-below c in (rw (below-is p) (low-step (start p) .1), rw (above-is c) (high-step (start p) .1))
 
 pub range-of-spec : {M : Type 1} → statement M
 range-of-spec =
@@ -101,9 +107,10 @@ range-of-spec =
     absolutes-requires
     pairs-reach-requires
     add-below
+    pairs-reach-requires-2
     add-above
-    cast-t11
-    sub-t12
-    cast-t13
-    add-t14
+    cast-t12
+    sub-t13
+    cast-t14
+    add-t15
     returns)
