@@ -150,8 +150,8 @@ pub fn dropped_part<'a, 'b>(
     squares: usize,
 ) -> u64
     requires { ⌜ squares ≤ paired ⌝ }
-    requires { ⌜ (length (now a) ≡ symbols) × (length (now p) ≡ pairs) × (sumAbs (now a) + sumAbs (now p) ≤ spanLimit) ⌝ }
-    requires { ⌜ (length (now b) ≡ symbols) × (length (now q) ≡ pairs) × (sumAbs (now b) + sumAbs (now q) ≤ spanLimit) ⌝ }
+    requires { ⌜ (length (now a) ≡ symbols) × (sumAbs (now a) + sumAbs (now p) ≤ spanLimit) ⌝ }
+    requires { ⌜ (length (now b) ≡ symbols) × (sumAbs (now b) + sumAbs (now q) ≤ spanLimit) ⌝ }
     ensures { λ n. ⌜ n ≡ dropped squares (rowOfParts (pos 0) (now (a .entry)) (now (p .entry))) (rowOfParts (pos 0) (now (b .entry)) (now (q .entry))) ⌝ }
 {
     let all = crate::sums::row_radius(a, p) * crate::sums::row_radius(b, q);

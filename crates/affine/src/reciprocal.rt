@@ -166,8 +166,8 @@ fn error_bound<'a, 'b>(
     squares: usize,
 ) -> u64
     requires { ⌜ squares ≤ paired ⌝ }
-    requires { ⌜ (length (now a) ≡ symbols) × (length (now p) ≡ pairs) × (span (rowOfParts c (now a) (now p)) ≤ spanLimit) ⌝ }
-    requires { ⌜ (length (now b) ≡ symbols) × (length (now q) ≡ pairs) × (span (rowOfParts d (now b) (now q)) ≤ spanLimit) ⌝ }
+    requires { ⌜ (length (now a) ≡ symbols) × (span (rowOfParts c (now a) (now p)) ≤ spanLimit) ⌝ }
+    requires { ⌜ (length (now b) ≡ symbols) × (span (rowOfParts d (now b) (now q)) ≤ spanLimit) ⌝ }
     ensures { λ r. ⌜ r ≡ errorBound squares (rowOfParts c (now (a .entry)) (now (p .entry))) (rowOfParts d (now (b .entry)) (now (q .entry))) ⌝ }
 {
     let t = c * d - UNIT_SQUARED;

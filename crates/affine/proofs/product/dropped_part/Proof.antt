@@ -34,7 +34,7 @@ all-is c = ap₂ _*_ (c .before .row-radius .ensures) (c .row-radius2 .ensures)
 
 all-within : (c : tie.Start) → radius (x c) * radius (y c) ≤ spanLimit * spanLimit
 unfolding radius
-all-within c = mul-le-mul (c .pre .1 .0 .2) (c .pre .1 .1 .2)
+all-within c = mul-le-mul (c .pre .1 .0 .1) (c .pre .1 .1 .1)
 
 abbrev start : tie.After-absolutes2 → tie.Start
 start c = c .before .before .before .before .before .before .before .before
@@ -66,7 +66,7 @@ part-absolutes-end c = search needs
 absolutes-requires : tie.Need-absolutes-requires
 absolutes-requires c κs =
     let s = c .before .before .before .before .before in
-    omega (arith, sumAbs-take (s .args .squares - 0) (s .args .a .now), s .pre .1 .0 .2)
+    omega (arith, sumAbs-take (s .args .squares - 0) (s .args .a .now), s .pre .1 .0 .1)
 
 sub-absolutes-2 : tie.Need-sub-absolutes-2
 sub-absolutes-2 c = search needs
@@ -80,7 +80,7 @@ part-absolutes-end-2 c = search needs
 absolutes-requires-2 : tie.Need-absolutes-requires-2
 absolutes-requires-2 c κs =
     let s = c .before .before .before .before .before .before .before in
-    omega (arith, sumAbs-take (s .args .squares - 0) (s .args .b .now), s .pre .1 .1 .2)
+    omega (arith, sumAbs-take (s .args .squares - 0) (s .args .b .now), s .pre .1 .1 .1)
 
 mul-kept : tie.Need-mul-kept
 mul-kept c = let s = start c in rw (kept-is c) (omega (arith, kept-within s, all-within s))

@@ -54,10 +54,10 @@ x-is c = toZ-ofZ w64 _ (x-fits c)
 y-is : (c : tie.Start) → toZ w64 (ofZ w64 (c .args .t2 .centre)) ≡ c .args .t2 .centre
 y-is c = toZ-ofZ w64 _ (y-fits c)
 
-x-long : (c : tie.Start) → (length (c .args .t1 .linear) ≡ symbols) × (length (c .args .t1 .pair) ≡ pairs)
+x-long : (c : tie.Start) → length (c .args .t1 .linear) ≡ symbols
 x-long c = search needs
 
-y-long : (c : tie.Start) → (length (c .args .t2 .linear) ≡ symbols) × (length (c .args .t2 .pair) ≡ pairs)
+y-long : (c : tie.Start) → length (c .args .t2 .linear) ≡ symbols
 y-long c = search needs
 
 linear-quotients-requires : tie.Need-linear-quotients-requires
@@ -130,8 +130,8 @@ dropped-part-requires c κs =
     let s = start (c .before .before .before .before .before .before .before .before) in (
       s .pre .0,
       (
-        (x-long s .0, x-long s .1, parts-within (s .args .t1) (s .pre .2)),
-        (y-long s .0, y-long s .1, parts-within (s .args .t2) (s .pre .3)),
+        (x-long s, parts-within (s .args .t1) (s .pre .2)),
+        (y-long s, parts-within (s .args .t2) (s .pre .3)),
       ),
     )
 

@@ -28,10 +28,10 @@ abbrev z : tie.Start → Row
 z c = rowOfParts (c .args .d) (c .args .b .now) (c .args .q .now)
 
 x-within : (c : tie.Start) → span (x c) ≤ spanLimit
-x-within c = c .pre .1 .0 .2
+x-within c = c .pre .1 .0 .1
 
 z-within : (c : tie.Start) → span (z c) ≤ spanLimit
-z-within c = c .pre .1 .1 .2
+z-within c = c .pre .1 .1 .1
 
 -- ---- the centre's total, less N
 product-within : (c : tie.Start) → natAbs (c .args .c *ℤ c .args .d) ≤ spanLimit * spanLimit
@@ -80,7 +80,7 @@ dropped-part-requires : tie.Need-dropped-part-requires
 dropped-part-requires c κs =
     let s = c .before .before .before in
     let p = s .pre .1 in
-    (s .pre .0, ((p .0 .0, p .0 .1, parts-within (x s) (x-within s)), (p .1 .0, p .1 .1, parts-within (z s) (z-within s))))
+    (s .pre .0, ((p .0 .0, parts-within (x s) (x-within s)), (p .1 .0, parts-within (z s) (z-within s))))
 
 -- ---- the sum of the four parts
 abbrev start : tie.After-dropped-part → tie.Start

@@ -12,7 +12,7 @@ use mir.ValLaws.{toZ-ofZ, toZ-pos}
 use Rattle.integer.specs.Floor.{ceilingQuotient}
 use Rattle.integer.proofs.Floor.{ceiling-at-most}
 use Rattle.affine.specs.declared.Row.{Row}
-use Rattle.affine.specs.Limits.{symbols, pairs, unitSquared, spanLimit}
+use Rattle.affine.specs.Limits.{symbols, unitSquared, spanLimit}
 use Rattle.affine.specs.Row.{rowOfParts, span}
 use Rattle.affine.specs.Steps.{withOwn, checked}
 use Rattle.affine.specs.Reciprocal.{candidate, errorBound, reciprocalOwn, reciprocalRow}
@@ -42,7 +42,7 @@ made c = c .candidate-row .result
 made-fits : (c : tie.After-candidate-row) → SFits w64 (made c .centre)
 made-fits c = search needs
 
-made-long : (c : tie.After-candidate-row) → (length (made c .linear) ≡ symbols) × (length (made c .pair) ≡ pairs)
+made-long : (c : tie.After-candidate-row) → length (made c .linear) ≡ symbols
 made-long c = search needs
 
 -- its parts, as they are lent
@@ -75,7 +75,7 @@ kept c = rw (span-is (c .before)) at (c .if1 .left)
 x-fits : (c : tie.Start) → SFits w64 (c .args .t1 .centre)
 x-fits c = search needs
 
-x-long : (c : tie.Start) → (length (c .args .t1 .linear) ≡ symbols) × (length (c .args .t1 .pair) ≡ pairs)
+x-long : (c : tie.Start) → length (c .args .t1 .linear) ≡ symbols
 x-long c = search needs
 
 error-bound-requires : tie.Need-error-bound-requires
@@ -84,7 +84,7 @@ error-bound-requires c κs =
     let m = from e in
     let s = m .before in
     rw (lent m, toZ-ofZ w64 _ (x-fits s))
-    (s .pre .0 .0, ((x-long s .0, x-long s .1, s .pre .0 .2), (made-long m .0, made-long m .1, kept e)))
+    (s .pre .0 .0, ((x-long s, s .pre .0 .2), (made-long m, kept e)))
 
 ceiling-quotient-requires : tie.Need-ceiling-quotient-requires
 ceiling-quotient-requires c κs = search needs
