@@ -1,13 +1,10 @@
--- Parts of a list, `take n (drop from l)`: their length and elements, a part of a part, and a part that a loop copies out. The list has room.
+-- Parts of a list, `take n (drop from l)`: their length and elements, a part of a part, and a part copied out. The list has room.
 use mathlib.Core.Path.{_≡_, sym, ap, _∙_}
-use mathlib.Core.List.{List}
+use mathlib.Core.List.{List, append-nil}
 use Prim.Native.Nat.{ℕ, _+_, _-_, _≤_, _<_}
 use native.Mathlib.Omega.{arith}
-use lib.IntN.{ℤ, pos}
-use lib.ListN.{length, getD, take, drop, set, length-drop}
-use lib.Seq.{length-take-le, take-take, take-add, drop-at, drop-drop, getD-take, getD-drop}
-use Rattle.affine.specs.Lists.{at}
-use Rattle.affine.proofs.Fill.{Filled, filled-more, filled-all}
+use lib.ListN.{length, getD, take, drop, length-drop}
+use lib.Seq.{length-take-le, take-length, take-take, take-add, drop-at, drop-length, drop-drop, getD-take, getD-drop, paste}
 
 module _ {A : Type 0} (l : List A) (from n : ℕ) (room : from + n ≤ length l) where
   pub length-part : length (take n (drop from l)) ≡ n
@@ -27,11 +24,12 @@ module _ {A : Type 0} (l : List A) (from n : ℕ) (room : from + n ≤ length l)
 pub getD-part : {A : Type 0} (l : List A) (from n i : ℕ) (d : A) → i < n → getD (take n (drop from l)) i d ≡ getD l (from + i) d
 getD-part l from n i d h = getD-take n (drop from l) i d h ∙ getD-drop from l i d
 
--- a loop that copies a part of l into an array of n numbers
-module _ (l : List ℤ) (from n : ℕ) (room : from + n ≤ length l) where
-  pub copied-more : {out : List ℤ} {i : ℕ} {v : ℤ} → Filled n (take n (drop from l)) out i → i < n → v ≡ at l (from + i)
-      → Filled n (take n (drop from l)) (set out i v) (i + 1)
-  copied-more {out} {i} f h e = filled-more (length-part l from n room) f h (e ∙ sym (getD-part l from n i (pos 0) h))
-
-  pub copied-all : {out : List ℤ} {i : ℕ} → Filled n (take n (drop from l)) out i → n ≤ i → out ≡ take n (drop from l)
-  copied-all f h = filled-all (length-part l from n room) f h
+-- a part of l copied over a list of its length
+pub copied : {A : Type 0} (l d : List A) (start end : ℕ) → start + length d ≡ end → end ≤ length l
+    → paste d 0 (take (end - start) (drop start l)) (length (take (end - start) (drop start l))) ≡ take (length d) (drop start l)
+copied l d start end e h =
+    let n : end - start ≡ length d = omega arith in
+    let s = take (length d) (drop start l) in
+    let k : length s ≡ length d = length-part l start (length d) (omega arith) in
+    let z : 0 + length d ≡ length d = omega arith in
+    rw (n, k, z, drop-length d, append-nil) (ap (λ (m : ℕ). take m s) (sym k) ∙ take-length s)

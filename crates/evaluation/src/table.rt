@@ -12,53 +12,6 @@ ghost use Rattle.evaluation.specs.Table.{rowAt, rowWidth};
 
 pub const ROW_WIDTH: usize = 1 + SYMBOLS + PAIRS;
 
-// The linear coefficients that stand from an index on.
-fn get_linear(table: &[i64], from: usize) -> [i64; SYMBOLS]
-    requires { ⌜ from + symbols ≤ length (now table) ⌝ }
-    ensures { λ r. ⌜ r ≡ take symbols (drop from (now (table .entry))) ⌝ }
-{
-    let mut out = [0i64; SYMBOLS];
-    let mut i: usize = 0;
-    while i < SYMBOLS {
-        let p = from + i;
-        let v = table[p];
-        out[i] = v;
-        i += 1;
-    }
-    out
-}
-
-// The pair coefficients that stand from an index on.
-fn get_pair(table: &[i64], from: usize) -> [i64; PAIRS]
-    requires { ⌜ from + pairs ≤ length (now table) ⌝ }
-    ensures { λ r. ⌜ r ≡ take pairs (drop from (now (table .entry))) ⌝ }
-{
-    let mut out = [0i64; PAIRS];
-    let mut k: usize = 0;
-    while k < PAIRS {
-        let p = from + k;
-        let v = table[p];
-        out[k] = v;
-        k += 1;
-    }
-    out
-}
-
-pub fn get_row(table: &[i64], k: usize) -> Row
-    requires { ⌜ rowWidth * k + rowWidth ≤ length (now table) ⌝ }
-    ensures { λ r. ⌜ r ≡ rowAt (now (table .entry)) k ⌝ }
-{
-    let base = ROW_WIDTH * k;
-    let centre = table[base];
-    let linear = get_linear(table, base + 1);
-    let pair = get_pair(table, base + 1 + SYMBOLS);
-    Row {
-        centre,
-        linear,
-        pair,
-    }
-}
-
 // The numbers of src, put into dst from an index on.
 fn put_numbers(dst: &mut [i64], at: usize, src: &[i64])
     requires { ⌜ at + length (now src) ≤ length (now dst) ⌝ }
@@ -70,6 +23,23 @@ fn put_numbers(dst: &mut [i64], at: usize, src: &[i64])
         let p = at + i;
         dst[p] = x;
         i += 1;
+    }
+}
+
+pub fn get_row(table: &[i64], k: usize) -> Row
+    requires { ⌜ rowWidth * k + rowWidth ≤ length (now table) ⌝ }
+    ensures { λ r. ⌜ r ≡ rowAt (now (table .entry)) k ⌝ }
+{
+    let base = ROW_WIDTH * k;
+    let centre = table[base];
+    let mut linear = [0i64; SYMBOLS];
+    put_numbers(&mut linear, 0, &table[base + 1..base + 1 + SYMBOLS]);
+    let mut pair = [0i64; PAIRS];
+    put_numbers(&mut pair, 0, &table[base + 1 + SYMBOLS..base + ROW_WIDTH]);
+    Row {
+        centre,
+        linear,
+        pair,
     }
 }
 
