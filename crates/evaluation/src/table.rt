@@ -4,9 +4,8 @@ use affine::limits::PAIRS;
 use affine::limits::SYMBOLS;
 ghost use mathlib.Core.Path.{_≡_};
 ghost use Prim.Native.Nat.{_+_, _*_, _<_, _≤_};
-ghost use lib.ListN.{length, take, drop};
+ghost use lib.ListN.{length};
 ghost use lib.Seq.{paste};
-ghost use Rattle.affine.specs.Limits.{symbols, pairs};
 ghost use Rattle.affine.specs.Row.{numbers};
 ghost use Rattle.evaluation.specs.Table.{rowAt, rowWidth};
 

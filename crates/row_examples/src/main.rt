@@ -3,8 +3,6 @@
 use affine::Answer;
 use affine::Row;
 use affine::Status;
-use affine::limits::PAIRS;
-use affine::limits::SYMBOLS;
 use libc::STDOUT_FILENO;
 ghost use Prim.Native.Nat.{_≤_, _<_};
 ghost use lib.IntN.{natAbs};
@@ -19,28 +17,21 @@ fn print_number(z: i64) {
     io::print_decimal(STDOUT_FILENO, integer::magnitude::absolute(z));
 }
 
-fn print_linear(linear: [i64; SYMBOLS]) {
-    for i in 0..SYMBOLS {
-        let v = linear[i];
+fn print_numbers(numbers: &[i64]) {
+    let mut i: usize = 0;
+    while i < numbers.len() {
+        let v = numbers[i];
         print_number(v);
-    }
-}
-
-fn print_pairs(pair: [i64; PAIRS]) {
-    for k in 0..PAIRS {
-        let v = pair[k];
-        print_number(v);
+        i += 1;
     }
 }
 
 fn print_row(row: Row)
     requires { ⌜ span row ≤ spanLimit ⌝ }
 {
-    let linear = row.linear;
-    let pair = row.pair;
     print_number(row.centre);
-    print_linear(linear);
-    print_pairs(pair);
+    print_numbers(&row.linear);
+    print_numbers(&row.pair);
     let range = affine::range::range_of(row);
     print_number(range.low);
     print_number(range.high);

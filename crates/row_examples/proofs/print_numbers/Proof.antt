@@ -1,15 +1,15 @@
--- `print_linear` is safe and ends: the loop counts to the number of symbols.
+-- `print_numbers` is safe and ends: the loop counts to the length.
 use Prim.Native.Nat.{_≤_, _-_}
-use Rattle.affine.specs.Limits.{symbols}
+use lib.ListN.{length}
 use borrow.Author.Needs.{needs}
-use Rattle.row_examples.proofs.print_linear.Statement.{statement}
-use Rattle.row_examples.proofs.print_linear.Tie as tie
+use Rattle.row_examples.proofs.print_numbers.Statement.{statement}
+use Rattle.row_examples.proofs.print_numbers.Tie as tie
 
 abbrev Inv-loop : tie.InvT-loop
-Inv-loop linear i₀ i = i ≤ symbols
+Inv-loop numbers i₀ i = i ≤ length numbers
 
 abbrev μ-loop : tie.MeasureT-loop
-μ-loop linear i₀ i = symbols - i
+μ-loop numbers i₀ i = length numbers - i
 
 loop-holds : tie.Need-loop-holds Inv-loop μ-loop
 loop-holds c = search needs
@@ -17,8 +17,8 @@ loop-holds c = search needs
 mul-v : tie.Need-mul-v Inv-loop μ-loop
 mul-v c = search needs
 
-array-copy-out-v : tie.Need-array-copy-out-v Inv-loop μ-loop
-array-copy-out-v c = search needs
+shared-slice-copy-out-v : tie.Need-shared-slice-copy-out-v Inv-loop μ-loop
+shared-slice-copy-out-v c = search needs
 
 print-number-requires : tie.Need-print-number-requires Inv-loop μ-loop
 print-number-requires c κs = search needs
@@ -35,15 +35,15 @@ loop-again c = search needs
 returns : tie.Need-returns Inv-loop μ-loop
 returns c = search needs
 
-pub print-linear-spec : {M : Type 1} → statement M
-print-linear-spec =
+pub print-numbers-spec : {M : Type 1} → statement M
+print-numbers-spec =
     tie.close
     (tie.spec
     Inv-loop
     μ-loop
     loop-holds
     mul-v
-    array-copy-out-v
+    shared-slice-copy-out-v
     print-number-requires
     add-i
     loop-less
