@@ -1,11 +1,12 @@
--- Totals divided one after another under the rounding rule of a product: the quotients stored so far, and the sum of the absolute
+-- Totals divided one after another, in place, under the rounding rule of a product: the quotients so far, and the sum of the absolute
 -- remainders so far.
 use mathlib.Core.Path.{_≡_, refl, sym, ap, ap₂, _∙_}
 use mathlib.Core.List.{List, [], _∷_, map}
 use Prim.Native.Nat.{ℕ, _+_, _*_, _≤_, _<_}
 use native.Mathlib.Omega.{arith}
 use lib.IntN.{ℤ, pos, natAbs}
-use lib.ListN.{length, take, set, replicate, length-map, length-replicate, List·getD-map}
+use lib.ListN.{length, take, drop, set, length-map, List·getD-map}
+use lib.Seq.{drop-set-lt, drop-drop, getD-drop}
 use Rattle.integer.specs.Floor.{floorQuotient, floorRemainder}
 use Rattle.integer.specs.Sum.{sumAbs}
 use Rattle.integer.proofs.Floor.{natAbs-remainder}
@@ -37,32 +38,41 @@ pub remainders-within : (t : List ℤ) → sumAbs (remainders t) ≤ unit * leng
 remainders-within [] = omega arith
 remainders-within (x ∷ t) = let h = remainders-within t in omega (arith, remainder-small x)
 
-pub record Divided (n : ℕ) (t values : List ℤ) (left i : ℕ) : Type 0 where
-  pub stored : Filled n (quotients t) values i
+-- ---- the first i of the totals t divided in place
+pub record Divided (t values : List ℤ) (left i : ℕ) : Type 0 where
+  pub stored : Filled (length t) (quotients t) values i
+  pub rest : drop i values ≡ drop i t
   pub summed : left ≡ sumAbs (take i (remainders t))
   pub small : left ≤ unit * i
 
-pub divided-none : (n : ℕ) (t : List ℤ) → Divided n t (replicate n (pos 0)) 0 0
-divided-none n t = record { stored = filled-none n (quotients t) (replicate n (pos 0)) (length-replicate n (pos 0)); summed = refl; small = omega arith }
+pub divided-none : (t : List ℤ) → Divided t t 0 0
+divided-none t = record { stored = filled-none (length t) (quotients t) t refl; rest = refl; summed = refl; small = omega arith }
 
-module _ {n : ℕ} {t values : List ℤ} {left i : ℕ} (long : length t ≡ n) (d : Divided n t values left i) where
-  next-sum : i < n → sumAbs (take (i + 1) (remainders t)) ≡ left + natAbs (productRounding .remainder (at t i))
+module _ {t values : List ℤ} {left i : ℕ} (d : Divided t values left i) where
+  -- what a turn reads is the total
+  pub divided-at : at values i ≡ at t i
+  divided-at =
+      let z : i + 0 ≡ i = omega arith in
+      (rw z at (sym (getD-drop i values 0 (pos 0)) ∙ ap (λ (l : List ℤ). at l 0) (d .rest) ∙ getD-drop i t 0 (pos 0)))
+
+  next-sum : i < length t → sumAbs (take (i + 1) (remainders t)) ≡ left + natAbs (productRounding .remainder (at t i))
   next-sum h =
-      sumAbs-more (remainders t) i (rw (length-map t, long) h)
+      sumAbs-more (remainders t) i (rw (length-map t) h)
       ∙ ap₂ (λ a b. a + b) (sym (d .summed)) (ap natAbs (at-remainders t i))
 
-  pub divided-more : {q : ℤ} {m : ℕ} → i < n → q ≡ productRounding .quotient (at t i) → m ≡ natAbs (productRounding .remainder (at t i))
-      → Divided n t (set values i q) (left + m) (i + 1)
+  pub divided-more : {q : ℤ} {m : ℕ} → i < length t → q ≡ productRounding .quotient (at t i) → m ≡ natAbs (productRounding .remainder (at t i))
+      → Divided t (set values i q) (left + m) (i + 1)
   divided-more {q} {m} h eq em =
       let s = remainder-small (at t i) in
       record {
-        stored = filled-more (length-map t _ ∙ long) (d .stored) h (eq ∙ sym (at-quotients t i));
+        stored = filled-more (length-map t _) (d .stored) h (eq ∙ sym (at-quotients t i));
+        rest = drop-set-lt (i + 1) values i q (omega arith) ∙ sym (drop-drop 1 i values) ∙ ap (drop 1) (d .rest) ∙ drop-drop 1 i t;
         summed = ap (λ k. left + k) em ∙ sym (next-sum h);
         small = let l = d .small in omega arith;
       }
 
-  pub divided-values : n ≤ i → values ≡ quotients t
-  divided-values h = filled-all (length-map t _ ∙ long) (d .stored) h
+  pub divided-values : length t ≤ i → values ≡ quotients t
+  divided-values h = filled-all (length-map t _) (d .stored) h
 
-  pub divided-left : n ≤ i → left ≡ sumAbs (remainders t)
-  divided-left h = d .summed ∙ sumAbs-all (remainders t) i (rw (length-map t, long) h)
+  pub divided-left : length t ≤ i → left ≡ sumAbs (remainders t)
+  divided-left h = d .summed ∙ sumAbs-all (remainders t) i (rw (length-map t) h)

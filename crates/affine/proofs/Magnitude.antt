@@ -145,13 +145,6 @@ module _ (x y : Row) where
   unfolding linearTotals
   linear-totals-within = crosswise-within symbols (x .centre) (y .centre) (x .linear) (y .linear)
 
-  pub linear-totals-within-twice : {n : ℕ} → natAbs (x .centre) ≤ n → natAbs (y .centre) ≤ n → sumAbs (x .linear) ≤ n → sumAbs (y .linear) ≤ n
-      → sumAbs (linearTotals x y) ≤ 2 * (n * n)
-  linear-totals-within-twice hc hd ha hb =
-      let second = mul-le-mul hc hb in
-      let first = mul-le-mul hd ha in
-      omega (arith, linear-totals-within)
-
 module _ (squares : ℕ) (x y : Row) where
   pair-totals-within : sumAbs (pairTotals squares x y)
       ≤ natAbs (x .centre) * sumAbs (y .pair) + natAbs (y .centre) * sumAbs (x .pair) + squaredRadius squares x * squaredRadius squares y

@@ -8,11 +8,11 @@ use crate::pair_order::first_of;
 use crate::pair_order::second_of;
 ghost use mathlib.Core.Path.{_≡_};
 ghost use mathlib.Core.List.{[], map};
-ghost use Prim.Native.Nat.{ℕ, _+_, _*_, _≤_, _<_};
+ghost use Prim.Native.Nat.{ℕ, _+_, _*_, _^_, _≤_, _<_};
 ghost use lib.IntN.{pos, natAbs, _+ℤ_, _*ℤ_};
 ghost use lib.ListN.{length};
 ghost use Rattle.integer.specs.Sum.{sumAbs};
-ghost use Rattle.affine.specs.Limits.{symbols, pairs, paired, spanLimit};
+ghost use Rattle.affine.specs.Limits.{symbols, pairs, paired, unit, spanLimit};
 ghost use Rattle.affine.specs.Lists.{at, pick};
 ghost use Rattle.affine.specs.PairOrder.{firstOf, secondOf, inUse};
 ghost use Rattle.affine.specs.Row.{span, rowOfParts};
@@ -25,17 +25,6 @@ ghost use Rattle.affine.specs.Product.{
   productRounding,
   product,
 };
-
-// Quotients of totals, and the sum of the absolute remainders.
-pub struct LinearQuotients {
-    pub values: [i64; SYMBOLS],
-    pub remainders: u64,
-}
-
-pub struct PairQuotients {
-    pub values: [i64; PAIRS],
-    pub remainders: u64,
-}
 
 // The total of a symbol, from the centres c and d and the coefficients b of the second row and a of the first.
 pub fn linear_total(c: i64, b: i64, d: i64, a: i64) -> i64
@@ -92,29 +81,23 @@ pub fn pair_total(
 }
 
 // Rows are lent part by part to the loops: a row by value is copied at each call.
-fn linear_quotients(c: i64, a: &[i64; SYMBOLS], d: i64, b: &[i64; SYMBOLS]) -> LinearQuotients
+pub fn linear_totals(c: i64, a: &[i64; SYMBOLS], d: i64, b: &[i64; SYMBOLS]) -> [i64; SYMBOLS]
     requires { ⌜ (natAbs c ≤ spanLimit) × (natAbs d ≤ spanLimit) ⌝ }
     requires { ⌜ (sumAbs (now a) ≤ spanLimit) × (sumAbs (now b) ≤ spanLimit) ⌝ }
-    ensures values { λ r. ⌜ r .values ≡ map (productRounding .quotient) (linearTotals (rowOfParts c (now (a .entry)) []) (rowOfParts d (now (b .entry)) [])) ⌝ }
-    ensures remainders { λ r. ⌜ r .remainders ≡ sumAbs (map (productRounding .remainder) (linearTotals (rowOfParts c (now (a .entry)) []) (rowOfParts d (now (b .entry)) []))) ⌝ }
+    ensures { λ r. ⌜ r ≡ linearTotals (rowOfParts c (now (a .entry)) []) (rowOfParts d (now (b .entry)) []) ⌝ }
 {
-    let mut values = [0i64; SYMBOLS];
-    let mut remainders: u64 = 0;
+    let mut totals = [0i64; SYMBOLS];
     let mut i: usize = 0;
     while i < SYMBOLS {
         let ai = a[i];
         let bi = b[i];
-        let t = linear_total(c, bi, d, ai);
-        let q = integer::division::floor_quotient_4096(t);
-        let m = integer::division::floor_remainder_4096(t);
-        values[i] = q;
-        remainders += m;
+        totals[i] = linear_total(c, bi, d, ai);
         i += 1;
     }
-    LinearQuotients { values, remainders }
+    totals
 }
 
-fn pair_quotients<'a, 'b>(
+pub fn pair_totals<'a, 'b>(
     c: i64,
     a: &'a [i64; SYMBOLS],
     p: &'a [i64; PAIRS],
@@ -122,23 +105,36 @@ fn pair_quotients<'a, 'b>(
     b: &'b [i64; SYMBOLS],
     q: &'b [i64; PAIRS],
     squares: usize,
-) -> PairQuotients
+) -> [i64; PAIRS]
     requires { ⌜ (span (rowOfParts c (now a) (now p)) ≤ spanLimit) × (span (rowOfParts d (now b) (now q)) ≤ spanLimit) ⌝ }
-    ensures values { λ r. ⌜ r .values ≡ map (productRounding .quotient) (pairTotals squares (rowOfParts c (now (a .entry)) (now (p .entry))) (rowOfParts d (now (b .entry)) (now (q .entry)))) ⌝ }
-    ensures remainders { λ r. ⌜ r .remainders ≡ sumAbs (map (productRounding .remainder) (pairTotals squares (rowOfParts c (now (a .entry)) (now (p .entry))) (rowOfParts d (now (b .entry)) (now (q .entry))))) ⌝ }
+    ensures { λ r. ⌜ r ≡ pairTotals squares (rowOfParts c (now (a .entry)) (now (p .entry))) (rowOfParts d (now (b .entry)) (now (q .entry))) ⌝ }
 {
-    let mut values = [0i64; PAIRS];
-    let mut remainders: u64 = 0;
+    let mut totals = [0i64; PAIRS];
     let mut k: usize = 0;
     while k < PAIRS {
         let pk = p[k];
         let qk = q[k];
-        let t = pair_total(a, b, c, qk, d, pk, k, squares);
-        values[k] = integer::division::floor_quotient_4096(t);
-        remainders += integer::division::floor_remainder_4096(t);
+        totals[k] = pair_total(a, b, c, qk, d, pk, k, squares);
         k += 1;
     }
-    PairQuotients { values, remainders }
+    totals
+}
+
+// Divides each total, and answers the sum of the absolute remainders.
+fn divide(totals: &mut [i64]) -> u64
+    requires { ⌜ unit * length (now totals) < 2 ^ 64 ⌝ }
+    ensures quotients { λ r. ⌜ now (totals .exit) ≡ map (productRounding .quotient) (now (totals .entry)) ⌝ }
+    ensures remainders { λ r. ⌜ r ≡ sumAbs (map (productRounding .remainder) (now (totals .entry))) ⌝ }
+{
+    let mut remainders: u64 = 0;
+    let mut i: usize = 0;
+    while i < totals.len() {
+        let t = totals[i];
+        totals[i] = integer::division::floor_quotient_4096(t);
+        remainders += integer::division::floor_remainder_4096(t);
+        i += 1;
+    }
+    remainders
 }
 
 // No centre takes part in the dropped part.
@@ -169,13 +165,14 @@ pub fn multiply(x: Row, y: Row, squares: usize, own: usize) -> Answer
     let c = x.centre;
     let d = y.centre;
     let t = c * d;
-    let l = linear_quotients(c, &x.linear, d, &y.linear);
-    let p = pair_quotients(c, &x.linear, &x.pair, d, &y.linear, &y.pair, squares);
-    let remainders = integer::division::floor_remainder_4096(t) + l.remainders + p.remainders;
+    // The totals are divided in their place: they become the new row's coefficients, and no other row is made.
+    let mut linear = linear_totals(c, &x.linear, d, &y.linear);
+    let mut pair = pair_totals(c, &x.linear, &x.pair, d, &y.linear, &y.pair, squares);
+    let remainders = integer::division::floor_remainder_4096(t)
+        + divide(&mut linear)
+        + divide(&mut pair);
     let error = dropped_part(&x.linear, &x.pair, &y.linear, &y.pair, squares) + remainders;
-    let mut linear = l.values;
     linear[own] = integer::division::ceiling_quotient(error, UNIT) as i64;
-    let pair = p.values;
     let row = Row {
         centre: integer::division::floor_quotient_4096(t),
         linear,

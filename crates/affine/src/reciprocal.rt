@@ -18,7 +18,7 @@ ghost use Rattle.affine.specs.Limits.{symbols, pairs, paired, unitSquare
 ghost use Rattle.affine.specs.Lists.{at, pick};
 ghost use Rattle.affine.specs.PairOrder.{firstOf, secondOf, inUse};
 ghost use Rattle.affine.specs.Row.{span, rowOfParts};
-ghost use Rattle.affine.specs.Product.{meeting, linearTotals, pairTotals};
+ghost use Rattle.affine.specs.Product.{meeting};
 ghost use Rattle.affine.specs.Reciprocal.{
   slope,
   candidateLinear,
@@ -114,47 +114,6 @@ fn candidate_row(x: Row, squares: usize) -> Row
     }
 }
 
-fn linear_total_absolutes(c: i64, a: &[i64; SYMBOLS], d: i64, b: &[i64; SYMBOLS]) -> u64
-    requires { ⌜ (natAbs c ≤ spanLimit) × (natAbs d ≤ spanLimit) ⌝ }
-    requires { ⌜ (sumAbs (now a) ≤ spanLimit) × (sumAbs (now b) ≤ spanLimit) ⌝ }
-    ensures { λ r. ⌜ r ≡ sumAbs (linearTotals (rowOfParts c (now (a .entry)) []) (rowOfParts d (now (b .entry)) [])) ⌝ }
-{
-    let mut sum: u64 = 0;
-    let mut i: usize = 0;
-    while i < SYMBOLS {
-        let ai = a[i];
-        let bi = b[i];
-        let t = crate::product::linear_total(c, bi, d, ai);
-        sum += integer::magnitude::absolute(t);
-        i += 1;
-    }
-    sum
-}
-
-fn pair_total_absolutes<'a, 'b>(
-    c: i64,
-    a: &'a [i64; SYMBOLS],
-    p: &'a [i64; PAIRS],
-    d: i64,
-    b: &'b [i64; SYMBOLS],
-    q: &'b [i64; PAIRS],
-    squares: usize,
-) -> u64
-    requires { ⌜ (span (rowOfParts c (now a) (now p)) ≤ spanLimit) × (span (rowOfParts d (now b) (now q)) ≤ spanLimit) ⌝ }
-    ensures { λ r. ⌜ r ≡ sumAbs (pairTotals squares (rowOfParts c (now (a .entry)) (now (p .entry))) (rowOfParts d (now (b .entry)) (now (q .entry)))) ⌝ }
-{
-    let mut sum: u64 = 0;
-    let mut k: usize = 0;
-    while k < PAIRS {
-        let pk = p[k];
-        let qk = q[k];
-        let t = crate::product::pair_total(a, b, c, qk, d, pk, k, squares);
-        sum += integer::magnitude::absolute(t);
-        k += 1;
-    }
-    sum
-}
-
 // A bound of operand times candidate less 1, in units of 1 over N; both rows by their parts.
 fn error_bound<'a, 'b>(
     c: i64,
@@ -172,8 +131,10 @@ fn error_bound<'a, 'b>(
 {
     let t = c * d - UNIT_SQUARED;
     let centre = integer::magnitude::absolute(t);
-    let linear = linear_total_absolutes(c, a, d, b);
-    let pair = pair_total_absolutes(c, a, p, d, b, q, squares);
+    let linear_totals = crate::product::linear_totals(c, a, d, b);
+    let linear = crate::sums::absolutes(&linear_totals);
+    let pair_totals = crate::product::pair_totals(c, a, p, d, b, q, squares);
+    let pair = crate::sums::absolutes(&pair_totals);
     let dropped = crate::product::dropped_part(a, p, b, q, squares);
     centre + linear + pair + dropped
 }

@@ -2,8 +2,8 @@
 use mathlib.Core.Path.{_≡_, ap, ap₂, _∙_}
 use Prim.Native.Nat.{ℕ, _+_, _*_, _^_, _≤_, _<_}
 use native.Mathlib.Omega.{arith}
-use mathlib.Core.List.{[], map}
-use lib.IntN.{ℤ, pos, _*ℤ_}
+use mathlib.Core.List.{[]}
+use lib.IntN.{ℤ, pos, natAbs, _*ℤ_}
 use lib.ListN.{length, set}
 use mir.Syntax.{w64}
 use mir.Val.{SFits, toZ, ofZ}
@@ -18,8 +18,8 @@ use Rattle.affine.specs.Row.{rowOfParts}
 use Rattle.affine.specs.Steps.{checked}
 use Rattle.affine.specs.Product.{linearTotals, pairTotals, dropped, productRounding, productOwn, productRow}
 use Rattle.affine.proofs.RowSize.{centre-within, linear-within, parts-within}
-use Rattle.affine.proofs.Totals.{linear-totals-of-parts, pair-totals-of-parts, dropped-of-parts}
-use Rattle.affine.proofs.Divided.{remainders}
+use Rattle.affine.proofs.Totals.{length-linear-totals, length-pair-totals, linear-totals-of-parts, pair-totals-of-parts, dropped-of-parts}
+use Rattle.affine.proofs.Divided.{quotients, remainders, remainder-small, remainders-within}
 use Rattle.affine.proofs.Magnitude.{centre-product-within}
 use Rattle.affine.proofs.ProductError.{allRemainders, remainders-are-sum, error-within}
 use Rattle.affine.proofs.SpanSize.{span-as, span-product}
@@ -60,91 +60,124 @@ x-long c = search needs
 y-long : (c : tie.Start) → length (c .args .t2 .linear) ≡ symbols
 y-long c = search needs
 
-linear-quotients-requires : tie.Need-linear-quotients-requires
-linear-quotients-requires c κs =
+-- ---- the totals
+linear-totals-requires : tie.Need-linear-totals-requires
+linear-totals-requires c κs =
     let s = c .before .before .before .before .before .before in
     let hx = s .pre .2 in
     let hy = s .pre .3 in
     rw (x-is s, y-is s)
     ((centre-within (s .args .t1) hx, centre-within (s .args .t2) hy), (linear-within (s .args .t1) hx, linear-within (s .args .t2) hy))
 
-abbrev at-linear : tie.After-linear-quotients → tie.Start
+abbrev at-linear : tie.After-linear-totals → tie.Start
 at-linear c = c .before .before .before .before .before .before .before
 
-pair-quotients-requires : tie.Need-pair-quotients-requires
-pair-quotients-requires c κs =
-    let s = at-linear (c .before .before .before .before .before .before) in
-    rw (x-is s, y-is s) (s .pre .2, s .pre .3)
+pair-totals-requires : tie.Need-pair-totals-requires
+pair-totals-requires c κs = let s = at-linear (c .before .before .before .before .before .before) in rw (x-is s, y-is s) (s .pre .2, s .pre .3)
 
+abbrev Totals : Type 0
+Totals = tie.After-pair-totals
+
+abbrev start : Totals → tie.Start
+start c = at-linear (c .before .before .before .before .before .before .before)
+
+linear-is : (c : Totals) → c .before .before .before .before .before .before .before .linear-totals .result ≡ linearTotals (start c .args .t1) (start c .args .t2)
+linear-is c = let s = start c in c .before .before .before .before .before .before .before .linear-totals .ensures ∙ linear-totals-of-parts (s .args .t1) (s .args .t2) (x-is s) (y-is s)
+
+pair-is : (c : Totals) → c .pair-totals .result ≡ pairTotals (start c .args .squares) (start c .args .t1) (start c .args .t2)
+pair-is c = let s = start c in c .pair-totals .ensures ∙ pair-totals-of-parts (s .args .t1) (s .args .t2) (x-is s) (y-is s) (s .args .squares)
+
+-- ---- the totals divided, and all remainders
 floor-remainder-4096-requires : tie.Need-floor-remainder-4096-requires
 floor-remainder-4096-requires c κs = search needs
 
--- ---- all remainders, and the error
-abbrev Remains : Type 0
-Remains = tie.After-floor-remainder-4096
+slice-aggregate-divide : tie.Need-slice-aggregate-divide
+slice-aggregate-divide c = search needs
 
-abbrev after-linear : Remains → tie.After-linear-quotients
-after-linear c = c .before .before .before .before .before .before .before .before
+divide-requires : tie.Need-divide-requires
+divide-requires c κs =
+    let t = c .before .before in
+    rw (linear-is t) (omega (arith, length-linear-totals (start t .args .t1) (start t .args .t2)))
 
-abbrev start : Remains → tie.Start
-start c = at-linear (after-linear c)
+abbrev linear-divided : tie.After-divide → Totals
+linear-divided c = c .before .before .before
 
-linear-totals : (c : Remains)
-    → let g = start c .args in
-    linearTotals (rowOfParts (toZ w64 (ofZ w64 (g .t1 .centre))) (g .t1 .linear) []) (rowOfParts (toZ w64 (ofZ w64 (g .t2 .centre))) (g .t2 .linear) [])
-    ≡ linearTotals (g .t1) (g .t2)
-linear-totals c = let s = start c in linear-totals-of-parts (s .args .t1) (s .args .t2) (x-is s) (y-is s)
+centre-left : (c : tie.After-divide)
+    → let s = start (linear-divided c) in
+    c .before .before .floor-remainder-4096 .result ≡ natAbs (productRounding .remainder (centre s))
+centre-left c = rw (total-is (start (linear-divided c))) at (c .before .before .floor-remainder-4096 .ensures)
 
-pair-totals : (c : Remains)
-    → let g = start c .args in
-    pairTotals (g .squares) (rowOfParts (toZ w64 (ofZ w64 (g .t1 .centre))) (g .t1 .linear) (g .t1 .pair))
-    (rowOfParts (toZ w64 (ofZ w64 (g .t2 .centre))) (g .t2 .linear) (g .t2 .pair))
-    ≡ pairTotals (g .squares) (g .t1) (g .t2)
-pair-totals c = let s = start c in pair-totals-of-parts (s .args .t1) (s .args .t2) (x-is s) (y-is s) (s .args .squares)
+linear-left : (c : tie.After-divide)
+    → let s = start (linear-divided c) in
+    c .divide .result ≡ sumAbs (remainders (linearTotals (s .args .t1) (s .args .t2)))
+linear-left c = c .divide .ensures .1 ∙ ap (λ t. sumAbs (remainders t)) (linear-is (linear-divided c))
 
-remainders-is : (c : Remains)
-    → c .floor-remainder-4096 .result + after-linear c .linear-quotients .result .remainders + c .before .pair-quotients .result .remainders
-    ≡ allRemainders (start c .args .squares) (start c .args .t1) (start c .args .t2)
+add-remainders : tie.Need-add-remainders
+add-remainders c =
+    let d = c .before in
+    let s = start (linear-divided d) in
+    let t = linearTotals (s .args .t1) (s .args .t2) in
+    omega (
+      arith,
+      centre-left d,
+      linear-left d,
+      remainder-small (centre s),
+      remainders-within t,
+      length-linear-totals (s .args .t1) (s .args .t2),
+    )
+
+slice-aggregate-divide-2 : tie.Need-slice-aggregate-divide-2
+slice-aggregate-divide-2 c = search needs
+
+divide-requires-2 : tie.Need-divide-requires-2
+divide-requires-2 c κs =
+    let t = linear-divided (c .before .before) in
+    let s = start t in
+    rw (pair-is t) (omega (arith, length-pair-totals (s .args .squares) (s .args .t1) (s .args .t2)))
+
+abbrev Divisions : Type 0
+Divisions = tie.After-divide2
+
+abbrev first : Divisions → tie.After-divide
+first c = c .before .before .before
+
+abbrev origin : Divisions → tie.Start
+origin c = start (linear-divided (first c))
+
+remainders-is : (c : Divisions)
+    → first c .before .before .floor-remainder-4096 .result + first c .divide .result + c .divide2 .result
+    ≡ allRemainders (origin c .args .squares) (origin c .args .t1) (origin c .args .t2)
 remainders-is c =
-    let s = start c in
-    ap₂ _+_
-    (ap₂ _+_ (rw (total-is s) at (c .floor-remainder-4096 .ensures))
-    (after-linear c .linear-quotients .ensures .1 ∙ ap (λ t. sumAbs (remainders t)) (linear-totals c)))
-    (c .before .pair-quotients .ensures .1 ∙ ap (λ t. sumAbs (remainders t)) (pair-totals c))
+    let s = origin c in
+    ap₂ _+_ (ap₂ _+_ (centre-left (first c)) (linear-left (first c)))
+    (c .divide2 .ensures .1 ∙ ap (λ t. sumAbs (remainders t)) (pair-is (linear-divided (first c))))
     ∙ remainders-are-sum (s .args .squares) (s .args .t1) (s .args .t2)
 
+-- ---- the error
 abbrev error : tie.Start → ℕ
 error c = dropped (c .args .squares) (c .args .t1) (c .args .t2) + allRemainders (c .args .squares) (c .args .t1) (c .args .t2)
 
 within : (c : tie.Start) → error c ≤ spanLimit * spanLimit + unit * (1 + symbols + pairs)
 within c = error-within (c .args .squares) (c .args .t1) (c .args .t2) (c .pre .2) (c .pre .3)
 
-add-remainders : tie.Need-add-remainders
-add-remainders c = let r = c .before in omega (arith, remainders-is r, within (start r))
-
 add-remainders-2 : tie.Need-add-remainders-2
-add-remainders-2 c = let r = c .before .before in omega (arith, remainders-is r, within (start r))
+add-remainders-2 c = let d = c .before in omega (arith, remainders-is d, within (origin d))
 
 dropped-part-requires : tie.Need-dropped-part-requires
 dropped-part-requires c κs =
-    let s = start (c .before .before .before .before .before .before .before .before) in (
-      s .pre .0,
-      (
-        (x-long s, parts-within (s .args .t1) (s .pre .2)),
-        (y-long s, parts-within (s .args .t2) (s .pre .3)),
-      ),
-    )
+    let s = origin (c .before .before .before .before .before .before .before) in
+    (s .pre .0, ((x-long s, parts-within (s .args .t1) (s .pre .2)), (y-long s, parts-within (s .args .t2) (s .pre .3))))
 
-abbrev remains : tie.After-dropped-part → Remains
-remains c = c .before .before .before .before .before .before .before .before .before
+abbrev divisions : tie.After-dropped-part → Divisions
+divisions c = c .before .before .before .before .before .before .before .before
 
 dropped-is : (c : tie.After-dropped-part)
-    → let g = start (remains c) .args in
+    → let g = origin (divisions c) .args in
     c .dropped-part .result ≡ dropped (g .squares) (g .t1) (g .t2)
-dropped-is c = let g = start (remains c) .args in c .dropped-part .ensures ∙ dropped-of-parts (g .squares) (g .t1) (g .t2)
+dropped-is c = let g = origin (divisions c) .args in c .dropped-part .ensures ∙ dropped-of-parts (g .squares) (g .t1) (g .t2)
 
 add-error : tie.Need-add-error
-add-error c = let r = remains c in omega (arith, remainders-is r, dropped-is c, within (start r))
+add-error c = let d = divisions c in omega (arith, remainders-is d, dropped-is c, within (origin d))
 
 ceiling-quotient-requires : tie.Need-ceiling-quotient-requires
 ceiling-quotient-requires c κs = search needs
@@ -157,7 +190,7 @@ floor-quotient-4096-requires c κs = search needs
 
 -- ---- the three parts of the row
 abbrev own-start : tie.After-ceiling-quotient → tie.Start
-own-start c = start (remains (c .before .before))
+own-start c = origin (divisions (c .before))
 
 mul-linear : tie.Need-mul-linear
 mul-linear c = omega (arith, own-start c .pre .1)
@@ -167,36 +200,32 @@ array-set-from-linear c = own-start c .pre .1
 
 own-is : (c : tie.After-ceiling-quotient) → c .ceiling-quotient .result ≡ ceilingQuotient (error (own-start c)) unit
 own-is c =
-    let d = c .before .before in
-    c .ceiling-quotient .ensures ∙ ap (λ n. ceilingQuotient n unit) (ap₂ _+_ (dropped-is d) (remainders-is (remains d)))
+    let d = c .before in
+    c .ceiling-quotient .ensures ∙ ap (λ n. ceilingQuotient n unit) (ap₂ _+_ (dropped-is d) (remainders-is (divisions d)))
 
 own-small : (c : tie.After-ceiling-quotient) → c .ceiling-quotient .result < 2 ^ 63
 own-small c = omega (arith, own-is c, within (own-start c))
 
-abbrev remains-of : tie.After-floor-quotient-4096 → Remains
-remains-of c = remains (c .before .before .before .before)
-
 row-is : (c : tie.After-floor-quotient-4096)
-    → let r = remains-of c in
-    let g = start r .args in
-    rowOfParts (toZ w64 (ofZ w64 (c .floor-quotient-4096 .result)))
-    (set (after-linear r .linear-quotients .result .values) (g .own) (toZ w64 (c .before .before .ceiling-quotient .result)))
-    (r .before .pair-quotients .result .values)
+    → let d = divisions (c .before .before) in
+    let g = origin d .args in
+    rowOfParts (toZ w64 (ofZ w64 (c .floor-quotient-4096 .result))) (set (first d .divide .last .0) (g .own) (toZ w64 (c .before .ceiling-quotient .result)))
+    (d .divide2 .last .0)
     ≡ productRow (g .squares) (g .own) (g .t1) (g .t2)
 unfolding productOwn productRow
 row-is c =
-    let q = c .before .before in
-    let r = remains-of c in
-    let s = start r in
+    let q = c .before in
+    let d = divisions (q .before) in
+    let s = origin d in
     let centre-is = back (c .floor-quotient-4096 .ok) ∙ (rw (total-is s) at (c .floor-quotient-4096 .ensures)) in
-    let linear-is = after-linear r .linear-quotients .ensures .0 ∙ ap (map (productRounding .quotient)) (linear-totals r) in
+    let linear = first d .divide .ensures .0 ∙ ap quotients (linear-is (linear-divided (first d))) in
     let own = toZ-pos w64 (q .ceiling-quotient .result) (own-small q) ∙ ap pos (own-is q) in
-    let pair-is = r .before .pair-quotients .ensures .0 ∙ ap (map (productRounding .quotient)) (pair-totals r) in
-    λ i. record { centre = centre-is i; linear = set (linear-is i) (s .args .own) (own i); pair = pair-is i }
+    let pair = d .divide2 .ensures .0 ∙ ap quotients (pair-is (linear-divided (first d))) in
+    λ i. record { centre = centre-is i; linear = set (linear i) (s .args .own) (own i); pair = pair i }
 
 check-requires : tie.Need-check-requires
 check-requires c κs =
-    let s = start (remains-of c) in
+    let s = origin (divisions (c .before .before)) in
     span-as (row-is c) (omega (arith, span-product (s .args .squares) (s .args .own) (s .args .t1) (s .args .t2) (s .pre .2) (s .pre .3)))
 
 returns : tie.Need-returns
@@ -207,10 +236,14 @@ multiply-spec =
     tie.close
     (tie.spec
     mul-t
-    linear-quotients-requires
-    pair-quotients-requires
+    linear-totals-requires
+    pair-totals-requires
     floor-remainder-4096-requires
+    slice-aggregate-divide
+    divide-requires
     add-remainders
+    slice-aggregate-divide-2
+    divide-requires-2
     add-remainders-2
     dropped-part-requires
     add-error

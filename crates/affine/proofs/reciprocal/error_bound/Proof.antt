@@ -13,10 +13,11 @@ use Rattle.integer.proofs.Machine.{operation-fits, operation-gives}
 use Rattle.affine.specs.declared.Row.{Row}
 use Rattle.affine.specs.Limits.{unitSquared, spanLimit}
 use Rattle.affine.specs.Row.{rowOfParts, span}
+use Rattle.affine.specs.Product.{linearTotals, pairTotals, dropped}
 use Rattle.affine.specs.Reciprocal.{errorBound}
 use Rattle.affine.proofs.RowSize.{centre-within, linear-within, parts-within}
 use Rattle.affine.proofs.Totals.{linear-totals-of-parts, pair-totals-of-parts, dropped-of-parts}
-use Rattle.affine.proofs.Magnitude.{centre-product-within}
+use Rattle.affine.proofs.Magnitude.{centre-product-within, totals-within}
 use Rattle.affine.proofs.ErrorBound.{centreLess, error-bound-is-sum, error-bound-within}
 use Rattle.affine.proofs.reciprocal.error_bound.Statement.{statement}
 use Rattle.affine.proofs.reciprocal.error_bound.Tie as tie
@@ -66,38 +67,67 @@ x-is c = toZ-ofZ w64 _ (c .fits .c)
 z-is : (c : tie.Start) → toZ w64 (ofZ w64 (c .args .d)) ≡ c .args .d
 z-is c = toZ-ofZ w64 _ (c .fits .d)
 
-linear-total-absolutes-requires : tie.Need-linear-total-absolutes-requires
-linear-total-absolutes-requires c κs =
+linear-totals-requires : tie.Need-linear-totals-requires
+linear-totals-requires c κs =
     let s = c .before in
     let hx = x-within s in
     let hz = z-within s in
     rw (x-is s, z-is s) ((centre-within (x s) hx, centre-within (z s) hz), (linear-within (x s) hx, linear-within (z s) hz))
 
-pair-total-absolutes-requires : tie.Need-pair-total-absolutes-requires
-pair-total-absolutes-requires c κs = let s = c .before .before in rw (x-is s, z-is s) (x-within s, z-within s)
+linear-is : (c : tie.After-linear-totals) → let s = c .before .before in c .linear-totals .result ≡ linearTotals (x s) (z s)
+linear-is c = let s = c .before .before in c .linear-totals .ensures ∙ linear-totals-of-parts (x s) (z s) (x-is s) (z-is s)
+
+-- all totals and the dropped part together
+all-within : (c : tie.Start)
+    → natAbs (c .args .c *ℤ c .args .d) + sumAbs (linearTotals (x c) (z c)) + sumAbs (pairTotals (c .args .squares) (x c) (z c)) + dropped (c .args .squares) (x c) (z c)
+    ≤ spanLimit * spanLimit
+all-within c = totals-within (c .args .squares) (x c) (z c) (x-within c) (z-within c)
+
+slice-aggregate-absolutes : tie.Need-slice-aggregate-absolutes
+slice-aggregate-absolutes c = search needs
+
+absolutes-requires : tie.Need-absolutes-requires
+absolutes-requires c κs = let l = c .before in rw (linear-is l) (omega (arith, all-within (l .before .before)))
+
+pair-totals-requires : tie.Need-pair-totals-requires
+pair-totals-requires c κs = let s = c .before .before .before .before in rw (x-is s, z-is s) (x-within s, z-within s)
+
+pair-is : (c : tie.After-pair-totals) → let s = c .before .before .before .before .before in c .pair-totals .result ≡ pairTotals (s .args .squares) (x s) (z s)
+pair-is c = let s = c .before .before .before .before .before in c .pair-totals .ensures ∙ pair-totals-of-parts (x s) (z s) (x-is s) (z-is s) (s .args .squares)
+
+slice-aggregate-absolutes-2 : tie.Need-slice-aggregate-absolutes-2
+slice-aggregate-absolutes-2 c = search needs
+
+absolutes-requires-2 : tie.Need-absolutes-requires-2
+absolutes-requires-2 c κs = let p = c .before in rw (pair-is p) (omega (arith, all-within (p .before .before .before .before .before)))
 
 dropped-part-requires : tie.Need-dropped-part-requires
 dropped-part-requires c κs =
-    let s = c .before .before .before in
+    let s = c .before .before .before .before .before .before .before in
     let p = s .pre .1 in
     (s .pre .0, ((p .0 .0, parts-within (x s) (x-within s)), (p .1 .0, parts-within (z s) (z-within s))))
 
 -- ---- the sum of the four parts
+abbrev after-linear : tie.After-dropped-part → tie.After-absolutes
+after-linear c = c .before .before .before .before
+
+abbrev after-centre : tie.After-dropped-part → tie.After-absolute
+after-centre c = c .before .before .before .before .before .before .before
+
 abbrev start : tie.After-dropped-part → tie.Start
-start c = c .before .before .before .before
+start c = after-centre c .before
 
 sum-is : (c : tie.After-dropped-part)
-    → c .before .before .before .absolute .result + c .before .before .linear-total-absolutes .result + c .before .pair-total-absolutes .result
-    + c .dropped-part .result
+    → after-centre c .absolute .result + after-linear c .absolutes .result + c .before .absolutes2 .result + c .dropped-part .result
     ≡ errorBound (start c .args .squares) (x (start c)) (z (start c))
 sum-is c =
     let s = start c in
     let squares = s .args .squares in
-    let centre-is = rw (product-is s, toZ-ofZ w64 _ (less-fits s)) at (c .before .before .before .absolute .ensures) in
+    let centre-is = rw (product-is s, toZ-ofZ w64 _ (less-fits s)) at (after-centre c .absolute .ensures) in
     ap₂ _+_
     (ap₂ _+_
-    (ap₂ _+_ centre-is (c .before .before .linear-total-absolutes .ensures ∙ ap sumAbs (linear-totals-of-parts (x s) (z s) (x-is s) (z-is s))))
-    (c .before .pair-total-absolutes .ensures ∙ ap sumAbs (pair-totals-of-parts (x s) (z s) (x-is s) (z-is s) squares)))
+    (ap₂ _+_ centre-is (after-linear c .absolutes .ensures ∙ ap sumAbs (linear-is (after-linear c .before .before))))
+    (c .before .absolutes2 .ensures ∙ ap sumAbs (pair-is (c .before .before .before))))
     (c .dropped-part .ensures ∙ dropped-of-parts squares (x s) (z s))
     ∙ error-bound-is-sum squares (x s) (z s)
 
@@ -123,8 +153,12 @@ error-bound-spec =
     mul-t
     sub-t
     absolute-requires
-    linear-total-absolutes-requires
-    pair-total-absolutes-requires
+    linear-totals-requires
+    slice-aggregate-absolutes
+    absolutes-requires
+    pair-totals-requires
+    slice-aggregate-absolutes-2
+    absolutes-requires-2
     dropped-part-requires
     add-result
     add-result-2

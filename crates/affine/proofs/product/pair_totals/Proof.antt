@@ -1,9 +1,7 @@
--- `pair_total_absolutes` meets its contract: each turn adds the absolute total of one pair; all of them together are at most span times span.
-use mathlib.Core.Path.{_≡_, sym, _∙_}
+-- `pair_totals` meets its contract: each turn forms the total of one pair.
+use mathlib.Core.Path.{_≡_, refl, sym, _∙_}
 use Prim.Native.Nat.{ℕ, _-_, _≤_}
 use native.Mathlib.Omega.{arith}
-use lib.IntN.{ℤ, natAbs}
-use lib.ListN.{length}
 use mir.Syntax.{w64}
 use mir.Val.{toZ, ofZ}
 use mir.ValLaws.{toZ-ofZ}
@@ -14,21 +12,20 @@ use Rattle.affine.specs.Limits.{pairs, spanLimit}
 use Rattle.affine.specs.Lists.{at}
 use Rattle.affine.specs.Row.{span, rowOfParts}
 use Rattle.affine.specs.Product.{pairTotals}
-use Rattle.affine.proofs.SumLaws.{Summed, summed-none, summed-more, summed-within, summed-whole}
 use Rattle.affine.proofs.RowSize.{centre-within, linear-at-within, pair-at-within}
-use Rattle.affine.proofs.Magnitude.{totals-within}
 use Rattle.affine.proofs.Totals.{length-pair-totals, pair-total-at}
-use Rattle.affine.proofs.reciprocal.pair_total_absolutes.Statement.{statement}
-use Rattle.affine.proofs.reciprocal.pair_total_absolutes.Tie as tie
+use Rattle.affine.proofs.Fill.{Filled, filled-none, filled-more, filled-all}
+use Rattle.affine.proofs.product.pair_totals.Statement.{statement}
+use Rattle.affine.proofs.product.pair_totals.Tie as tie
 
 abbrev Inv-loop : tie.InvT-loop
-Inv-loop c a p d b q squares sum₀ k₀ sum k = Summed pairs (pairTotals squares (rowOfParts (toZ w64 c) a p) (rowOfParts (toZ w64 d) b q)) k sum
+Inv-loop c a p d b q squares totals₀ k₀ totals k = Filled pairs (pairTotals squares (rowOfParts (toZ w64 c) a p) (rowOfParts (toZ w64 d) b q)) totals k
 
 abbrev μ-loop : tie.MeasureT-loop
-μ-loop c a p d b q squares sum₀ k₀ sum k = pairs - k
+μ-loop c a p d b q squares totals₀ k₀ totals k = pairs - k
 
 loop-holds : tie.Need-loop-holds Inv-loop μ-loop
-loop-holds c = summed-none pairs _
+loop-holds c = filled-none pairs _ _ refl
 
 mul-pk : tie.Need-mul-pk Inv-loop μ-loop
 mul-pk c = search needs
@@ -91,36 +88,19 @@ pair-total-requires c κs =
       ),
     )
 
--- ---- the total of a turn, and what the turn adds
-abbrev wanted : Read → ℤ
-wanted c = at (pairTotals (start c .args .squares) (x c) (y c)) (k c)
-
-total : (c : tie.After-pair-total Inv-loop μ-loop) → toZ w64 (ofZ w64 (c .pair-total .result)) ≡ wanted (c .before)
+-- ---- the total of a turn
+total : (c : tie.After-pair-total Inv-loop μ-loop)
+    → toZ w64 (ofZ w64 (c .pair-total .result)) ≡ at (pairTotals (start (c .before) .args .squares) (x (c .before)) (y (c .before))) (k (c .before))
 total c =
     let b = c .before in
     back (c .pair-total .ok) ∙ (rw (pk-is b, qk-is b) at (c .pair-total .ensures))
     ∙ sym (pair-total-at (start b .args .squares) (x b) (y b) (k b) (omega arith))
 
-abbrev Added : Type 0
-Added = tie.After-absolute Inv-loop μ-loop
+mul-totals : tie.Need-mul-totals Inv-loop μ-loop
+mul-totals c = search needs
 
-added : (c : Added) → c .absolute .result ≡ natAbs (wanted (c .before .before))
-added c = rw (total (c .before)) at (c .absolute .ensures)
-
-long : (squares : ℕ) (x z : Row) → pairs ≤ length (pairTotals squares x z)
-long squares x z = let e = length-pair-totals squares x z in omega arith
-
-absolute-requires : tie.Need-absolute-requires Inv-loop μ-loop
-absolute-requires c κs = search needs
-
-add-sum : tie.Need-add-sum Inv-loop μ-loop
-add-sum c =
-    let b = c .before .before in
-    omega (
-      arith,
-      summed-within (turn b .loop .inv) (omega arith) (long _ _ _) (added c),
-      totals-within (start b .args .squares) (x b) (y b) (x-within b) (y-within b),
-    )
+array-set-from-totals : tie.Need-array-set-from-totals Inv-loop μ-loop
+array-set-from-totals c = search needs
 
 add-k : tie.Need-add-k Inv-loop μ-loop
 add-k c = search needs
@@ -130,14 +110,16 @@ loop-less c = search needs
 
 loop-again : tie.Need-loop-again Inv-loop μ-loop
 loop-again c =
-    let o = turn (c .before .before) in
-    summed-more (o .loop .inv) (omega arith) (long _ _ _) (added c)
+    let o = turn (c .before) in
+    filled-more (length-pair-totals _ _ _) (o .loop .inv) (omega arith) (total c)
 
 returns : tie.Need-returns Inv-loop μ-loop
-returns c = rw (← c-is (c .before .before), ← d-is (c .before .before)) (summed-whole (c .before .loop .inv) (c .loop-test .left) (length-pair-totals _ _ _))
+returns c =
+    let o = c .before in
+    rw (← c-is (o .before), ← d-is (o .before)) (filled-all (length-pair-totals _ _ _) (o .loop .inv) (omega arith))
 
-pub pair-total-absolutes-spec : {M : Type 1} → statement M
-pair-total-absolutes-spec =
+pub pair-totals-spec : {M : Type 1} → statement M
+pair-totals-spec =
     tie.close
     (tie.spec
     Inv-loop
@@ -148,8 +130,8 @@ pair-total-absolutes-spec =
     mul-qk
     element-copy-out-qk
     pair-total-requires
-    absolute-requires
-    add-sum
+    mul-totals
+    array-set-from-totals
     add-k
     loop-less
     loop-again

@@ -1,10 +1,8 @@
--- `linear_total_absolutes` meets its contract: each turn adds the absolute total of one symbol; all of them together are at most span times span.
-use mathlib.Core.Path.{_≡_, sym, _∙_}
-use Prim.Native.Nat.{ℕ, _-_, _≤_}
+-- `linear_totals` meets its contract: each turn forms the total of one symbol.
+use mathlib.Core.Path.{_≡_, refl, sym, _∙_}
+use Prim.Native.Nat.{ℕ, _-_}
 use native.Mathlib.Omega.{arith}
 use mathlib.Core.List.{[]}
-use lib.IntN.{ℤ, natAbs}
-use lib.ListN.{length}
 use mir.Syntax.{w64}
 use mir.Val.{toZ, ofZ}
 use mir.ValLaws.{toZ-ofZ}
@@ -15,21 +13,20 @@ use Rattle.affine.specs.Limits.{symbols}
 use Rattle.affine.specs.Lists.{at}
 use Rattle.affine.specs.Row.{rowOfParts}
 use Rattle.affine.specs.Product.{linearTotals}
-use Rattle.affine.proofs.SumLaws.{Summed, summed-none, summed-more, summed-within, summed-whole}
 use Rattle.affine.proofs.RowSize.{element-within}
-use Rattle.affine.proofs.Magnitude.{linear-totals-within-twice}
 use Rattle.affine.proofs.Totals.{length-linear-totals, linear-total-at}
-use Rattle.affine.proofs.reciprocal.linear_total_absolutes.Statement.{statement}
-use Rattle.affine.proofs.reciprocal.linear_total_absolutes.Tie as tie
+use Rattle.affine.proofs.Fill.{Filled, filled-none, filled-more, filled-all}
+use Rattle.affine.proofs.product.linear_totals.Statement.{statement}
+use Rattle.affine.proofs.product.linear_totals.Tie as tie
 
 abbrev Inv-loop : tie.InvT-loop
-Inv-loop c a d b sum₀ i₀ sum i = Summed symbols (linearTotals (rowOfParts (toZ w64 c) a []) (rowOfParts (toZ w64 d) b [])) i sum
+Inv-loop c a d b totals₀ i₀ totals i = Filled symbols (linearTotals (rowOfParts (toZ w64 c) a []) (rowOfParts (toZ w64 d) b [])) totals i
 
 abbrev μ-loop : tie.MeasureT-loop
-μ-loop c a d b sum₀ i₀ sum i = symbols - i
+μ-loop c a d b totals₀ i₀ totals i = symbols - i
 
 loop-holds : tie.Need-loop-holds Inv-loop μ-loop
-loop-holds c = summed-none symbols _
+loop-holds c = filled-none symbols _ _ refl
 
 mul-ai : tie.Need-mul-ai Inv-loop μ-loop
 mul-ai c = search needs
@@ -81,37 +78,19 @@ linear-total-requires c κs =
       element-within (x c .linear) (p .1 .0) (index c),
     )
 
--- ---- the total of a turn, and what the turn adds
-abbrev wanted : Read → ℤ
-wanted c = at (linearTotals (x c) (y c)) (index c)
-
-total : (c : tie.After-linear-total Inv-loop μ-loop) → toZ w64 (ofZ w64 (c .linear-total .result)) ≡ wanted (c .before)
+-- ---- the total of a turn
+total : (c : tie.After-linear-total Inv-loop μ-loop)
+    → toZ w64 (ofZ w64 (c .linear-total .result)) ≡ at (linearTotals (x (c .before)) (y (c .before))) (index (c .before))
 total c =
     let b = c .before in
     back (c .linear-total .ok) ∙ (rw (ai-is b, bi-is b) at (c .linear-total .ensures))
     ∙ sym (linear-total-at (x b) (y b) (index b) (omega arith))
 
-abbrev Added : Type 0
-Added = tie.After-absolute Inv-loop μ-loop
+mul-totals : tie.Need-mul-totals Inv-loop μ-loop
+mul-totals c = search needs
 
-added : (c : Added) → c .absolute .result ≡ natAbs (wanted (c .before .before))
-added c = rw (total (c .before)) at (c .absolute .ensures)
-
-long : (x z : Row) → symbols ≤ length (linearTotals x z)
-long x z = let e = length-linear-totals x z in omega arith
-
-absolute-requires : tie.Need-absolute-requires Inv-loop μ-loop
-absolute-requires c κs = search needs
-
-add-sum : tie.Need-add-sum Inv-loop μ-loop
-add-sum c =
-    let b = c .before .before in
-    let p = start b .pre in
-    omega (
-      arith,
-      summed-within (b .before .before .before .loop .inv) (omega arith) (long _ _) (added c),
-      linear-totals-within-twice (x b) (y b) (rw (c-is (start b)) (p .0 .0)) (rw (d-is (start b)) (p .0 .1)) (p .1 .0) (p .1 .1),
-    )
+array-set-from-totals : tie.Need-array-set-from-totals Inv-loop μ-loop
+array-set-from-totals c = omega arith
 
 add-i : tie.Need-add-i Inv-loop μ-loop
 add-i c = search needs
@@ -121,14 +100,16 @@ loop-less c = search needs
 
 loop-again : tie.Need-loop-again Inv-loop μ-loop
 loop-again c =
-    let o = c .before .before .before .before .before in
-    summed-more (o .loop .inv) (omega arith) (long _ _) (added c)
+    let o = c .before .before .before .before in
+    filled-more (length-linear-totals _ _) (o .loop .inv) (omega arith) (total c)
 
 returns : tie.Need-returns Inv-loop μ-loop
-returns c = rw (← c-is (c .before .before), ← d-is (c .before .before)) (summed-whole (c .before .loop .inv) (c .loop-test .left) (length-linear-totals _ _))
+returns c =
+    let o = c .before in
+    rw (← c-is (o .before), ← d-is (o .before)) (filled-all (length-linear-totals _ _) (o .loop .inv) (omega arith))
 
-pub linear-total-absolutes-spec : {M : Type 1} → statement M
-linear-total-absolutes-spec =
+pub linear-totals-spec : {M : Type 1} → statement M
+linear-totals-spec =
     tie.close
     (tie.spec
     Inv-loop
@@ -139,8 +120,8 @@ linear-total-absolutes-spec =
     mul-bi
     element-copy-out-bi
     linear-total-requires
-    absolute-requires
-    add-sum
+    mul-totals
+    array-set-from-totals
     add-i
     loop-less
     loop-again
