@@ -8,7 +8,7 @@ mod number; // number.rt: a number field, read and written
 mod fields; // fields.rt: a line of fields, read and written
 mod lines; // lines.rt: what each line of a sheet holds
 mod tests; // tests.rt: the tests 3, 4 and 5 of a line's numbers, and of a schedule
-mod reader; // reader.rt: a sheet, line by line
+mod reader; // reader.rt: a sheet read, block by block
 mod writer; // writer.rt: a schedule written, line by line
 
 // What a count is as a natural number, for the callers of `test`.

@@ -1,4 +1,4 @@
-// A sheet, line by line.
+// A sheet, block by block: the counts, the ends of the inputs, the steps.
 use crate::Line;
 use crate::Refusal;
 use crate::Schedule;
