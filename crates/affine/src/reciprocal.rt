@@ -8,7 +8,6 @@ use crate::limits::SYMBOLS;
 use crate::limits::UNIT_SQUARED;
 use crate::pair_order::second_of;
 ghost use mathlib.Core.Path.{_≡_};
-ghost use mathlib.Core.List.{[]};
 ghost use Prim.Native.Nat.{ℕ, _+_, _*_, _≤_, _<_};
 ghost use lib.IntN.{pos, negℤ, natAbs, _+ℤ_};
 ghost use lib.ListN.{length};

@@ -4,7 +4,7 @@ use crate::table::get_row;
 use affine::limits::SYMBOLS;
 use sheet::Refusal;
 ghost use mathlib.Core.Path.{_≡_};
-ghost use Prim.Native.Nat.{_*_, _-_, _≤_};
+ghost use Prim.Native.Nat.{_*_, _≤_};
 ghost use lib.ListN.{length};
 ghost use Rattle.evaluation.specs.Table.{rowWidth};
 ghost use Rattle.evaluation.specs.Asking.{isRow, tableRefusal, lentRow, orElse, rowRefusal, rowsRefusal};

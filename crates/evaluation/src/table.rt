@@ -3,7 +3,7 @@ use affine::Row;
 use affine::limits::PAIRS;
 use affine::limits::SYMBOLS;
 ghost use mathlib.Core.Path.{_≡_};
-ghost use Prim.Native.Nat.{_+_, _*_, _<_, _≤_};
+ghost use Prim.Native.Nat.{_+_, _*_, _≤_};
 ghost use lib.ListN.{length};
 ghost use lib.Seq.{paste};
 ghost use Rattle.affine.specs.Row.{numbers};
