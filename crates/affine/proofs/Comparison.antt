@@ -1,8 +1,7 @@
--- The comparison of two lists of numbers, from an index on: what one pair of numbers tells of it; of two lists joined; and of two rows.
--- By induction.
+-- The comparison of two lists of numbers, from an index on: what one pair of numbers tells of it.
 use mathlib.Core.Path.{_≡_, refl, sym, ap, _∙_}
-use mathlib.Core.Bool.{Bool, true, false}
-use mathlib.Core.List.{List, [], _∷_, _++_}
+use mathlib.Core.Bool.{true, false}
+use mathlib.Core.List.{List, []}
 use Prim.Native.Nat.{ℕ, _+_, _^_, _≤_, _<_}
 use native.Mathlib.Numerals.{add-one}
 use native.Mathlib.Omega.{arith}
@@ -14,9 +13,8 @@ use mir.Syntax.{w64}
 use mir.Val.{toZ, ofZ}
 use borrow.Author.Tests.{eq-eqb, ne-eqb}
 use Rattle.integer.proofs.Machine.{back}
-use Rattle.affine.specs.declared.Row.{Row}
-use Rattle.affine.specs.Lists.{pick, equal, at}
-use Rattle.affine.specs.Row.{agree, same}
+use Rattle.affine.specs.Lists.{equal, at}
+use Rattle.affine.specs.Row.{agree}
 
 pub equal-same : (x : ℤ) → equal x x ≡ true
 equal-same (pos n) = eq-eqb n n refl
@@ -60,26 +58,3 @@ drop-end xs i e = rw e (drop-length xs)
 pub agreeing-all : {n : ℕ} {xs ys : List ℤ} {i : ℕ} → Agreeing n xs ys i → n ≤ i → length xs ≡ n → length ys ≡ n → agree xs ys ≡ true
 unfolding agree
 agreeing-all {n} {xs} {ys} {i} s h long long′ = s .from-here ∙ rw (drop-end xs i (omega arith), drop-end ys i (omega arith))
-
-agree-append : (xs ys zs ws : List ℤ) → length xs ≡ length ys → agree (xs ++ zs) (ys ++ ws) ≡ pick (agree xs ys) (agree zs ws) false
-unfolding agree
-agree-append [] [] zs ws h = refl
-agree-append [] (y ∷ ys) zs ws h = absurd (omega arith)
-agree-append (x ∷ xs) [] zs ws h = absurd (omega arith)
-agree-append (x ∷ xs) (y ∷ ys) zs ws h = nested (equal x y) (agree xs ys) (agree zs ws) (agree-append xs ys zs ws (omega arith))
-  where
-    nested : (b d e : Bool) {c : Bool} → c ≡ pick d e false → pick b c false ≡ pick (pick b d false) e false
-    nested true d e p = p
-    nested false d e p = refl
-
--- two rows, part by part
-module _ (x y : Row) where
-  pub same-by-centre : (x .centre ≡ y .centre → ⊥) → same x y ≡ false
-  unfolding agree
-  same-by-centre h = simp (equal-other (x .centre) (y .centre) h)
-
-  pub same-by-lists : x .centre ≡ y .centre → length (x .linear) ≡ length (y .linear)
-      → same x y ≡ pick (agree (x .linear) (y .linear)) (agree (x .pair) (y .pair)) false
-  unfolding agree
-  same-by-lists e long =
-      rw (e, equal-same (y .centre)) (agree-append (x .linear) (y .linear) (x .pair) (y .pair) long)

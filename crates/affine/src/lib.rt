@@ -1,6 +1,6 @@
 // Row arithmetic: affine forms with square terms, in whole numbers of 1/4096.
 // The six ways a row comes about are `input`, `constant`, `add`, `subtract`, `multiply` and `invert` (the reciprocal); `within_span`,
-// `range_of` and `same_row` tell of a row.
+// `range_of` and `same_numbers` tell of rows.
 pub mod limits;
 mod pair_order;
 pub mod product;

@@ -1,4 +1,4 @@
-// Sums of absolute coefficients, the span test and the comparison of two rows.
+// Sums of absolute coefficients, the span test and the comparison of two rows by their numbers.
 use crate::Row;
 use crate::limits::PAIRS;
 use crate::limits::SPAN_LIMIT;
@@ -9,7 +9,7 @@ ghost use lib.IntN.{natAbs};
 ghost use lib.ListN.{length};
 ghost use Rattle.integer.specs.Sum.{sumAbs};
 ghost use Rattle.affine.specs.Limits.{spanLimit};
-ghost use Rattle.affine.specs.Row.{rowOfParts, span, withinSpan, agree, same};
+ghost use Rattle.affine.specs.Row.{rowOfParts, span, withinSpan, agree};
 ghost use Rattle.affine.specs.Capped.{capped};
 
 // The sum of the absolute values of so many numbers.
@@ -79,8 +79,8 @@ pub fn within_span(r: Row) -> bool
     u <= SPAN_LIMIT
 }
 
-// Whether two lists of numbers, of one length, agree.
-fn same_numbers<'a, 'b>(a: &'a [i64], b: &'b [i64]) -> bool
+// Whether two lists of numbers, of one length, agree: two rows by their numbers, or parts of them.
+pub fn same_numbers<'a, 'b>(a: &'a [i64], b: &'b [i64]) -> bool
     requires { ⌜ length (now a) ≡ length (now b) ⌝ }
     ensures { λ r. ⌜ r ≡ agree (now (a .entry)) (now (b .entry)) ⌝ }
 {
@@ -94,19 +94,4 @@ fn same_numbers<'a, 'b>(a: &'a [i64], b: &'b [i64]) -> bool
         i += 1;
     }
     true
-}
-
-// Whether all numbers of two rows agree.
-pub fn same_row(x: Row, y: Row) -> bool
-    ensures { λ r. ⌜ r ≡ same x y ⌝ }
-{
-    let c = x.centre;
-    let d = y.centre;
-    if c != d {
-        return false;
-    }
-    if !same_numbers(&x.linear, &y.linear) {
-        return false;
-    }
-    same_numbers(&x.pair, &y.pair)
 }

@@ -5,7 +5,7 @@ use mathlib.Core.List.{List}
 use Prim.Native.Nat.{ℕ, _-_, _*_, _≤_, min, max}
 use native.Mathlib.Nat.{min-eq-left, min-eq-right, max-eq-left, max-eq-right}
 use native.Mathlib.Omega.{arith}
-use borrow.Author.Tests.{eq-eqb, ne-eqb, eqb-true, leb-true}
+use borrow.Author.Tests.{eq-eqb, ne-eqb, eqb-true, le-leb, leb-true}
 use lib.Dec.{eqb, leb}
 use lib.IntN.{ℤ}
 use lib.ListN.{length}
@@ -15,8 +15,8 @@ use Rattle.affine.specs.Row.{span, withinSpan}
 use Rattle.affine.proofs.Lists.{pick-elim}
 use Rattle.sheet.specs.declared.Refusal.{Refusal}
 use Rattle.sheet.specs.Causes.{refusal, accepted}
-use Rattle.evaluation.specs.Table.{rowWidth, rowAt}
-use Rattle.evaluation.specs.Asking.{isRow, lentRow, tableRefusal, orElse, rowRefusal, rowsRefusal}
+use Rattle.evaluation.specs.Table.{rowWidth, rowPart, rowAt, RowsWithin}
+use Rattle.evaluation.specs.Asking.{isRow, lentRow, tableRefusal, orElse, rowRefusal, rowsRefusal, rangeTold, rangeOf, compared, sameOf, partOf}
 
 -- ---- tests one after another
 both-true : (s t : Bool) → pick s t false ≡ true → (s ≡ true) × (t ≡ true)
@@ -137,3 +137,35 @@ rows-accepted table count first second e h =
     let d = or-else-accepted low high (b .second) in
     let l = table-holds-both table count first second refl (b .first) in
     record { answer = b .is-second ∙ d .is-second ∙ lent-accepted table (max first second) (d .second) .0; holds-first = l .0; holds-second = l .1 }
+
+-- ---- rows within the span limit: none of them is refused
+module _ (table : List ℤ) (count : ℕ) (few : count ≤ symbols) (within : RowsWithin table count) where
+  lent-answered : (row : ℕ) → 1 ≤ row → row ≤ count → lentRow table row ≡ accepted
+  lent-answered row l h = simp (le-leb (span (rowAt table (row - 1))) spanLimit (within .spans (row - 1) (omega arith)))
+
+  pub row-answered : (row : ℕ) → 1 ≤ row → row ≤ count → rowRefusal table count row ≡ accepted
+  unfolding rowRefusal
+  row-answered row l h =
+      simp (le-leb 1 row l, le-leb row count h, le-leb count symbols few, le-leb (rowWidth * count) (length table) (within .room)) (lent-answered row l h)
+
+  rows-answered : (first second : ℕ) → 1 ≤ first → first ≤ second → second ≤ count → rowsRefusal table count first second ≡ accepted
+  unfolding rowsRefusal
+  rows-answered first second l m h =
+      let q = lent-answered first l (omega arith) in
+      let r = lent-answered second (omega arith) h in
+      simp (le-leb 1 first l, le-leb first count (omega arith), le-leb 1 second (omega arith), le-leb second count h, le-leb count symbols few, le-leb (rowWidth * count) (length table) (within .room))
+      (sym (lower-first table m) ∙ ap₂ orElse q r)
+
+  -- what is told of them
+  pub range-told-of : (row : ℕ) → 1 ≤ row → row ≤ count → rangeOf table count row ≡ rangeTold (rowAt table (row - 1))
+  unfolding rangeOf
+  range-told-of row l h = rw (row-answered row l h)
+
+  pub part-told-of : (row : ℕ) → 1 ≤ row → row ≤ count → partOf table count row ≡ rowPart table (row - 1)
+  unfolding partOf
+  part-told-of row l h = rw (row-answered row l h)
+
+  pub same-told-of : (first second : ℕ) → 1 ≤ first → first ≤ second → second ≤ count
+      → sameOf table count first second ≡ compared (rowAt table (first - 1)) (rowAt table (second - 1))
+  unfolding sameOf
+  same-told-of first second l m h = rw (rows-answered first second l m h)

@@ -1,13 +1,12 @@
 -- Demand 3: the induction over rows, put to work on the rows, tables and answers of the contracts. `specs/Demand3.antt` has the statement.
 use mathlib.Core.Path.{_≡_, refl, sym, ap, ap₂, _∙_, subst}
-use mathlib.Core.Logic.{_≢_, _⊎_, inl, inr, _↔_}
+use mathlib.Core.Logic.{_≢_, _↔_}
 use mathlib.Core.Bool.{Bool, true, false}
 use mathlib.Core.List.{List, [], _∷_, _++_}
 use Prim.Native.Nat.{ℕ, zero, suc, _*_, _-_, _≤_, _<_}
 use native.Mathlib.Omega.{arith}
-use native.Mathlib.Decide.{ℕ-discrete}
-use borrow.Author.Tests.{eqb-false, ne-eqb, le-leb}
-use lib.Dec.{eqb, leb}
+use borrow.Author.Tests.{eqb-false, ne-eqb}
+use lib.Dec.{eqb}
 use lib.IntN.{ℤ, pos, negsuc}
 use lib.ListN.{length, getD}
 use Rattle.integer.specs.Fraction.{Fraction, _≈_, _-ℚ_, _*ℚ_, _/ℚ_, whole}
@@ -15,10 +14,10 @@ use Rattle.integer.proofs.Ring.{con, _⊖_, _⊗_, neg, _≐_, ring}
 use Rattle.integer.proofs.Fraction.{ringOfFractions, orderedFractions, ≈-refl, ≈-sym, ≈-trans, +ℚ-cong, *ℚ-cong, times-quotient, not-below-of-≤ℚ}
 use Rattle.integer.proofs.Bound.{le-cong}
 use Rattle.affine.specs.declared.Row.{Row}
-use Rattle.affine.specs.Limits.{symbols, spanLimit, unit}
+use Rattle.affine.specs.Limits.{unit}
 use Rattle.affine.specs.Lists.{pick, at, equal}
 use Rattle.affine.specs.Form.{formValue}
-use Rattle.affine.specs.Row.{span, low, high}
+use Rattle.affine.specs.Row.{low, high}
 use Rattle.affine.specs.Steps.{constantRow}
 use Rattle.affine.proofs.Form.{Shaped, units}
 use Rattle.affine.proofs.Support.{FreeOf}
@@ -30,7 +29,6 @@ use Rattle.sheet.specs.declared.Schedule.{Schedule}
 use Rattle.sheet.specs.Causes.{accepted}
 use Rattle.sheet.specs.Limits.{lastCode}
 use Rattle.sheet.specs.Lines.{natural, stepAt}
-use Rattle.sheet.specs.Writing.{testOf}
 use Rattle.evaluation.specs.Table.{rowWidth, tableAfter, rowOfNumbers, rowAt, RowsWithin}
 use Rattle.evaluation.specs.Work.{rowCount, evaluated}
 use Rattle.evaluation.specs.Asking.{rowRefusal, rowsRefusal, rangeTold, rangeRefused, rangeOf, compared, notCompared, sameOf}
@@ -39,15 +37,16 @@ use Rattle.evaluation.specs.declared.SameAnswer.{SameAnswer}
 use Rattle.evaluation.specs.Values.{Within, FromMinusOneToOne, exactValue, rowOf, ownOf, symbolsOf, nextFound, foundValues, foundValue}
 use Rattle.evaluation.specs.Demand3.{InputsWithin, StillHolds, Demand3, Demand-3}
 use Rattle.evaluation.proofs.Sequence.{grown, length-grown, getD-grown, getD-beyond}
-use Rattle.evaluation.proofs.Induction.{AtFound, at-found, lt-or-ge}
-use Rattle.evaluation.proofs.WorkLaws.{nextRow, rowsUpTo, Went, went}
-use Rattle.sheet.proofs.Passed.{Passed, passed}
+use Rattle.evaluation.proofs.Induction.{AtFound, at-found}
+use Rattle.evaluation.proofs.WorkLaws.{nextRow, rowsUpTo, Went}
+use Rattle.sheet.proofs.Passed.{Passed}
 use Rattle.evaluation.proofs.Made.{row, divisor-of, rows-few}
 use Rattle.evaluation.proofs.RowFacts.{fact, own, own-is, alone, owned}
 use Rattle.evaluation.proofs.RowEnclosure.{X, negℚ-cong, row-encloses, apart-nonzero}
 use Rattle.evaluation.proofs.SoundRows.{Sound, row-sound}
 use Rattle.evaluation.proofs.WorkedTable.{rowAt-tableAfter, rowsWithin-tableAfter}
-use Rattle.evaluation.proofs.EvaluationEnds.{ends-tested, ends-short, ends-worked}
+use Rattle.evaluation.proofs.AskingLaws.{range-told-of}
+use Rattle.evaluation.proofs.AcceptedEvaluation.{accepted-evaluation}
 use Rattle.evaluation.proofs.FractionUnits.{scaled, scaled-form, scaled-cong, ≈-of-scaled, within-of-scaled}
 
 -- ---- found values grow as rows do
@@ -208,18 +207,10 @@ module _ (c : Schedule) (pass : Passed c) (x : ℕ → Fraction) (within : Input
 
   -- ---- the answers of the calls
   answered : (table : List ℤ) → rowWidth * count ≤ length table → (i : ℕ) → i < count → rangeOf (tableAfter rows table) count (suc i) .refusal ≡ accepted
-  unfolding rangeOf rowRefusal
   answered table room i h =
       let k : length rows ≡ count = length-grown (nextRow c) count in
       let w : RowsWithin (tableAfter rows table) (length rows) = rowsWithin-tableAfter rows table row-is-sound (rw k room) in
-      let v : RowsWithin (tableAfter rows table) count = rw k at w in
-      let m : suc i - 1 ≡ i = omega arith in
-      let a : leb 1 (suc i) ≡ true = le-leb 1 (suc i) (omega arith) in
-      let b : leb (suc i) count ≡ true = le-leb (suc i) count (omega arith) in
-      let d : leb count symbols ≡ true = le-leb count symbols (rows-few c pass) in
-      let e : leb (rowWidth * count) (length (tableAfter rows table)) ≡ true = le-leb _ _ (v .room) in
-      let l : leb (span (rowAt (tableAfter rows table) (suc i - 1))) spanLimit ≡ true = rw m (le-leb _ _ (v .spans i h)) in
-      simp (a, b, d, e, l)
+      ap (λ (r : RangeAnswer). r .refusal) (range-told-of (tableAfter rows table) count (rows-few c pass) (rw k at w) (suc i) (omega arith) h)
 
   in-range : (table : List ℤ) (i : ℕ) → i < count → (lent : List ℤ) → StillHolds (tableAfter rows table) lent i → (n : ℕ) → rangeOf lent n (suc i) .refusal ≡ accepted
       → Within (rangeOf lent n (suc i) .low) (exactValue c x i) (rangeOf lent n (suc i) .high)
@@ -251,24 +242,6 @@ module _ (c : Schedule) (pass : Passed c) (x : ℕ → Fraction) (within : Input
         in-range = in-range table;
         same-values = same-values table;
       }
-
--- an accepted evaluation passed 3, 4 and 5, had room, and worked all its rows
-record Accepted-evaluation (c : Schedule) (table : List ℤ) : Type 0 where
-  pass : Passed c
-  room : rowWidth * rowCount c ≤ length table
-  goes : Went c (rowCount c)
-  rows : evaluated c table .rows ≡ rowsUpTo c (rowCount c)
-
-accepted-evaluation : (c : Schedule) (table : List ℤ) → evaluated c table .refusal ≡ accepted → Accepted-evaluation c table
-accepted-evaluation c table e = by-test (ℕ-discrete (testOf c .number) 0) (lt-or-ge (length table) (rowWidth * rowCount c))
-  where
-    by-test : Dec (testOf c .number ≡ 0) → (length table < rowWidth * rowCount c) ⊎ (rowWidth * rowCount c ≤ length table) → Accepted-evaluation c table
-    by-test (no z) r = absurd (z (sym (ap (λ w. w .refusal .number) (ends-tested c table z)) ∙ ap (λ f. f .number) e))
-    by-test (yes z) (inl l) = absurd (let q : _≡_ {A = ℕ} 8 0 = sym (ap (λ w. w .refusal .number) (ends-short c table z l)) ∙ ap (λ f. f .number) e in omega arith)
-    by-test (yes z) (inr l) =
-        let q = ends-worked c table z l in
-        let w = went c (rowCount c) (ap (λ f. f .number) (sym (ap (λ w. w .refusal) q) ∙ e)) in
-        record { pass = passed c z; room = l; goes = w; rows = ap (λ w. w .rows) q ∙ w .rows }
 
 -- DEMAND 3: of every schedule and lent table whose evaluation is accepted, and all inputs within their ends.
 pub demand-3 : Demand-3

@@ -13,6 +13,7 @@ pub mod StepAnswers
 pub mod SoundRows
 pub mod WorkedTable
 pub mod EvaluationEnds
+pub mod AcceptedEvaluation
 pub mod FractionUnits
 pub mod RowEnclosure
 pub mod Demand3

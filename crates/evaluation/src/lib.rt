@@ -1,7 +1,7 @@
 // Evaluation of a schedule into a lent table, and what is asked about its rows (document 01, "Causes and what follows").
 mod asking; // asking.rt: refusals 9, 8 and 6 of a row asked for
 mod steps; // steps.rt: the row of a line of the sheet, from the rows before it
-mod table; // table.rt: rows read from a table of numbers, and put into it
+pub mod table; // table.rt: rows read from a table of numbers, put into it and compared there
 mod work; // work.rt: all rows, one after another
 
 use sheet::Refusal;
@@ -74,9 +74,7 @@ pub fn row(table: &[i64], count: usize, row: usize) -> &[i64]
     if refusal.number != 0 {
         return &table[0..0];
     }
-    let start = table::ROW_WIDTH * (row - 1);
-    let end = start + table::ROW_WIDTH;
-    &table[start..end]
+    table::row_part(table, row - 1)
 }
 
 // Whether two rows of one table have the same numbers.
@@ -90,10 +88,8 @@ pub fn same(table: &[i64], count: usize, first: usize, second: usize) -> SameAns
             same: false,
         };
     }
-    let x = table::get_row(table, first - 1);
-    let y = table::get_row(table, second - 1);
     SameAnswer {
         refusal,
-        same: affine::sums::same_row(x, y),
+        same: table::same_rows(table, first - 1, second - 1),
     }
 }

@@ -6,8 +6,8 @@ ghost use mathlib.Core.Path.{_≡_};
 ghost use Prim.Native.Nat.{_+_, _*_, _≤_};
 ghost use lib.ListN.{length};
 ghost use lib.Seq.{paste};
-ghost use Rattle.affine.specs.Row.{numbers};
-ghost use Rattle.evaluation.specs.Table.{rowAt, rowWidth};
+ghost use Rattle.affine.specs.Row.{numbers, same};
+ghost use Rattle.evaluation.specs.Table.{rowAt, rowPart, rowWidth};
 
 pub const ROW_WIDTH: usize = 1 + SYMBOLS + PAIRS;
 
@@ -53,4 +53,22 @@ pub fn put_row(table: &mut [i64], k: usize, r: Row)
     table[base] = c;
     put_numbers(&mut *table, base + 1, &l);
     put_numbers(&mut *table, base + 1 + SYMBOLS, &p);
+}
+
+// The part of the table that holds row k.
+pub fn row_part(table: &[i64], k: usize) -> &[i64]
+    requires { ⌜ rowWidth * k + rowWidth ≤ length (now table) ⌝ }
+    ensures { λ r. ⌜ now r ≡ rowPart (now (table .entry)) k ⌝ }
+{
+    let start = ROW_WIDTH * k;
+    let end = start + ROW_WIDTH;
+    &table[start..end]
+}
+
+// Whether rows j and k of the table have the same numbers.
+pub fn same_rows(table: &[i64], j: usize, k: usize) -> bool
+    requires { ⌜ (rowWidth * j + rowWidth ≤ length (now table)) × (rowWidth * k + rowWidth ≤ length (now table)) ⌝ }
+    ensures { λ r. ⌜ r ≡ same (rowAt (now (table .entry)) j) (rowAt (now (table .entry)) k) ⌝ }
+{
+    affine::sums::same_numbers(row_part(table, j), row_part(table, k))
 }

@@ -1,10 +1,9 @@
 -- `row` meets its contract: an empty part beside a refusal, or the part of the row.
-use mathlib.Core.Path.{_≡_, ap, _∙_}
+use mathlib.Core.Path.{_∙_}
 use mathlib.Core.List.{[]}
-use Prim.Native.Nat.{ℕ, _+_, _*_, _-_}
+use Prim.Native.Nat.{_-_}
 use native.Mathlib.Omega.{arith}
-use lib.ListN.{take, drop}
-use Rattle.evaluation.specs.Table.{rowWidth, rowPart}
+use Rattle.evaluation.specs.Table.{rowPart}
 use Rattle.evaluation.specs.Asking.{rowRefusal, partOf}
 use Rattle.evaluation.proofs.AskingLaws.{refused-answer, told-answer, RowAccepted, row-accepted}
 use borrow.Author.Needs.{needs}
@@ -38,26 +37,11 @@ returns c =
     refused-answer (rowRefusal (s .args .table .now) (s .args .count) (s .args .row)) (rowPart (s .args .table .now) (s .args .row - 1)) (λ q. [])
     (r .row-refusal .ensures) (b .if1 .taken)
 
-sub-start : tie.Need-sub-start
-sub-start c = asked c .holds .from-one
+sub-row-part : tie.Need-sub-row-part
+sub-row-part c = asked c .holds .from-one
 
-mul-start : tie.Need-mul-start
-mul-start c = let a = asked c in search needs
-
-add-end : tie.Need-add-end
-add-end c = let a = asked c in search needs
-
-mul-result : tie.Need-mul-result
-mul-result c = let a = asked c in search needs
-
-sub-result-2 : tie.Need-sub-result-2
-sub-result-2 c = search needs
-
-part-result-start-2 : tie.Need-part-result-start-2
-part-result-start-2 c = search needs
-
-part-result-end-2 : tie.Need-part-result-end-2
-part-result-end-2 c = let a = asked c in search needs
+row-part-requires : tie.Need-row-part-requires
+row-part-requires c κs = let a = asked c in omega arith
 
 returns-2 : tie.Need-returns-2
 unfolding partOf
@@ -65,9 +49,7 @@ returns-2 c =
     let b = c .before in
     let r = b .before .before in
     let s = r .before in
-    let start = rowWidth * (s .args .row - 1) in
-    let e : start + rowWidth - start ≡ rowWidth = omega arith in
-    ap (λ (n : ℕ). take n (drop start (s .args .table .now))) e
+    c .row-part .ensures
     ∙ told-answer (rowRefusal (s .args .table .now) (s .args .count) (s .args .row)) (rowPart (s .args .table .now) (s .args .row - 1)) []
     (r .row-refusal .ensures) (b .if1 .left)
 
@@ -80,11 +62,6 @@ row-spec =
     part-result-start
     part-result-end
     returns
-    sub-start
-    mul-start
-    add-end
-    mul-result
-    sub-result-2
-    part-result-start-2
-    part-result-end-2
+    sub-row-part
+    row-part-requires
     returns-2)
