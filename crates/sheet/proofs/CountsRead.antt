@@ -10,6 +10,7 @@ use lib.IntN.{ℤ}
 use Rattle.sheet.specs.Lines.{zeroSchedule, linesLeft, lineOf, lineText, names, numbers, store}
 use Rattle.sheet.specs.Tests.{fault}
 use Rattle.sheet.specs.Reading.{padded, partRead, readAs, readLines}
+use Rattle.sheet.specs.Text.{texts}
 use Rattle.sheet.specs.Writing.{textAt, linesText}
 use Rattle.sheet.specs.declared.Schedule.{Schedule}
 use Rattle.sheet.specs.declared.Line.the-variants.{CountNames, CountLine}
@@ -17,7 +18,7 @@ use Rattle.sheet.specs.declared.reader.Part.{Part}
 use Rattle.sheet.proofs.Choice.{pick-elim}
 use Rattle.sheet.proofs.FieldLine.{behind, none}
 use Rattle.sheet.proofs.LineKinds.{SameCounts, Shape, shape-store, numbers-stored, names-store, names-fault, numbers-width}
-use Rattle.sheet.proofs.SheetText.{fault-padded}
+use Rattle.sheet.proofs.TestedLines.{fault-padded}
 use Rattle.sheet.proofs.SheetRead.{LineIs, line-sound, line-complete}
 use Rattle.sheet.proofs.Passing.{CountsPassed}
 use Rattle.sheet.proofs.Passed.{counts-line, ten-digits-counts}
@@ -46,7 +47,7 @@ names-text xs = refl
 
 -- the text of the first two lines
 pub first-text : (c : Schedule) → linesText 2 1 c ≡ names CountNames ++ lineText CountLine (numbers c CountLine)
-unfolding linesText textAt lineOf lineText
+unfolding texts textAt lineOf lineText
 first-text c = ap (λ (t : List ℕ). names CountNames ++ t) (append-nil _)
 
 second-sound : (s : List ℕ) (at : ℕ) (d : Schedule) (next : ℕ) (p : Part) → d ≡ zeroSchedule → drop at s ≡ names CountNames ++ drop next s

@@ -8,7 +8,7 @@ use lib.ListN.{replicate}
 use lib.IntN.{pos, negsuc}
 use Rattle.sheet.specs.Choice.{pick}
 use Rattle.sheet.specs.Causes.{accepted}
-use Rattle.sheet.specs.Text.{decimal, numeral, line}
+use Rattle.sheet.specs.Text.{decimal, numeral, line, texts}
 use Rattle.sheet.specs.Number.{run, judged, afterSign, fieldAt}
 use Rattle.sheet.specs.Lines.{zeroSchedule, zeroEnd, zeroStep, lineOf, lineText, names, numbers, store}
 use Rattle.sheet.specs.Tests.{countsPass, endsPass, stepPasses, fault}
@@ -41,7 +41,7 @@ unfolding sheet01 step textAt lineOf lineText numbers line numeral decimal
 last-line = refl
 
 read-01 : readOf (sheetText sheet01) ≡ record { refusal = accepted; schedule = sheet01 }
-unfolding sheet01 step sheetText linesText textAt lineOf lineText numbers line numeral decimal readOf readSheet readLines readAs fieldsAt fieldsFrom fieldAt afterSign judged run starts fault countsPass endsPass stepPasses store zeroSchedule
+unfolding sheet01 step sheetText texts textAt lineOf lineText numbers line numeral decimal readOf readSheet readLines readAs fieldsAt fieldsFrom fieldAt afterSign judged run starts fault countsPass endsPass stepPasses store zeroSchedule
 read-01 = refl
 
 -- a sheet of one input and one step, from the bytes of its three lines of numbers

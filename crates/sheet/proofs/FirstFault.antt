@@ -15,6 +15,7 @@ use Rattle.sheet.specs.Causes.{refusal}
 use Rattle.sheet.specs.Lines.{natural, zeroSchedule, lineOf, lineAt, linesLeft, lineText, names, width, numbers}
 use Rattle.sheet.specs.Tests.{fault}
 use Rattle.sheet.specs.Reading.{padded, fieldsAt, starts, partRead, readAs, readLine, readLines, readSheet, readOf}
+use Rattle.sheet.specs.Text.{texts}
 use Rattle.sheet.specs.Writing.{faultAt, textAt, linesText}
 use Rattle.sheet.specs.declared.Schedule.{Schedule}
 use Rattle.sheet.specs.declared.Line.{Line}
@@ -135,7 +136,7 @@ lines-place k n c s at z =
 
 -- the lines of a text, split
 text-split : (j k n : ℕ) (c : Schedule) → linesText (j + k) n c ≡ linesText j n c ++ linesText k (n + j) c
-unfolding linesText
+unfolding texts
 text-split zero k n c = let m : 0 + k ≡ k = omega arith in rw (m, add-zero n)
 text-split (suc j) k n c =
     let m : suc j + k ≡ suc (j + k) = omega arith in
@@ -144,7 +145,7 @@ text-split (suc j) k n c =
 
 -- one line in order: the names stand there
 first-name : (s : List ℕ) → InOrder 1 s → readLine 1 zeroSchedule s 0 .refusal .number ≡ 0
-unfolding linesText textAt lineOf lineText
+unfolding texts textAt lineOf lineText
 first-name s o =
     ap (λ (p : Part). p .refusal .number)
     (line-complete CountNames 1 zeroSchedule s 0 [] (o .rest) refl none (names-fault CountNames (padded []) refl) (o .begins))
@@ -251,12 +252,12 @@ at-length {m} {s} {c} {at} r = omega (arith, ap length (r .is), length-append (l
 
 -- nothing, or the names alone, was read
 read-none : (s : List ℕ) → ReadSoFar 0 s zeroSchedule 0
-unfolding linesText
+unfolding texts
 read-none s = record { is = refl; upto = omega arith; passes = λ i a b. absurd (omega arith); there = omega arith }
 
 read-names : (s : List ℕ) → readLine 1 zeroSchedule s 0 .refusal .number ≡ 0
     → (readLine 1 zeroSchedule s 0 .schedule ≡ zeroSchedule) × ReadSoFar 1 s zeroSchedule (readLine 1 zeroSchedule s 0 .next)
-unfolding lineOf linesText textAt lineText faultAt fault
+unfolding lineOf texts textAt lineText faultAt fault
 read-names s e =
     let r = line-sound CountNames 1 zeroSchedule s 0 (omega arith) e in (
       r .stored ∙ names-store zeroSchedule CountNames (padded (r .xs)) refl,

@@ -5,13 +5,14 @@ pub mod Digits
 pub mod Decimal
 pub mod Numeral
 pub mod Written
+pub mod Texts
 pub mod Prefix
 pub mod FieldLine
 pub mod LineKinds
 pub mod LineRead
 pub mod LineTold
 pub mod Passing
-pub mod SheetText
+pub mod TestedLines
 pub mod Blocks
 pub mod SheetRead
 pub mod Passed

@@ -10,7 +10,7 @@ use lib.ListN.{length, length-append}
 use Rattle.sheet.specs.Choice.{pick}
 use lib.IntN.{ℤ, pos, negsuc, natAbs}
 use Rattle.sheet.specs.Limits.{maxInputs, maxSteps, maxBytes, endLimit, lastBinary, lastCode}
-use Rattle.sheet.specs.Text.{numeral, decimal, line}
+use Rattle.sheet.specs.Text.{numeral, decimal, line, texts}
 use Rattle.sheet.specs.Lines.{natural, lineOf, lineAt, linesLeft, lineText, numbers, endsAt, stepAt}
 use Rattle.sheet.specs.Tests.{fault}
 use Rattle.sheet.specs.Writing.{faultAt, textAt, linesText, sheetText, testOf}
@@ -100,7 +100,7 @@ line-wide c l n (step-line a) h g =
 
 lines-wide : (k n : ℕ) (c : Schedule) → 3 ≤ n → n + k ≤ 105 → ((m : ℕ) → n ≤ m → m < n + k → faultAt c m ≡ 0)
     → length (linesText k n c) ≤ 19 * k + extra (natural (c .inputs)) n
-unfolding linesText textAt faultAt
+unfolding texts textAt faultAt
 lines-wide zero n c g h f = omega arith
 lines-wide (suc k) n c g h f =
     rw (length-append (lineText (lineAt c n) (numbers c (lineAt c n))) (linesText k (suc n) c))
@@ -112,7 +112,7 @@ lines-wide (suc k) n c g h f =
 
 -- the first two lines
 first-wide : (c : Schedule) → CountsPassed (c .inputs) (c .squares) (c .steps) → length (linesText 2 1 c) ≤ 28
-unfolding linesText textAt lineOf lineText numbers
+unfolding texts textAt lineOf lineText numbers
 first-wide c p =
     simp length-append
     (omega (
@@ -125,7 +125,7 @@ first-wide c p =
 
 -- a sheet's text begins with its first two lines
 pub sheet-split : (c : Schedule) → sheetText c ≡ linesText 2 1 c ++ linesText (linesLeft c) 3 c
-unfolding sheetText linesText
+unfolding sheetText texts
 sheet-split c =
     let n : linesLeft c + 2 ≡ suc (suc (linesLeft c)) = omega arith in
     rw (n, append-nil (textAt c 2)) (sym (append-assoc (textAt c 1) (textAt c 2) (linesText (linesLeft c) 3 c)))

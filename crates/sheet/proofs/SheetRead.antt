@@ -12,7 +12,7 @@ use lib.Dec.{eqb}
 use lib.ListN.{length, drop, length-append}
 use lib.Seq.{drop-drop}
 use lib.IntN.{ℤ}
-use Rattle.sheet.specs.Text.{line}
+use Rattle.sheet.specs.Text.{line, texts}
 use Rattle.sheet.specs.Lines.{natural, lineAt, lineText, names, width, numbers, store}
 use Rattle.sheet.specs.Tests.{fault}
 use Rattle.sheet.specs.Reading.{padded, fieldsAt, starts, partRead, readAs, readLines}
@@ -26,7 +26,7 @@ use Rattle.sheet.proofs.Prefix.{starts-sound, starts-complete}
 use Rattle.sheet.proofs.FieldLine.{fields-sound, fields-complete, TenDigits, behind}
 use Rattle.sheet.proofs.LineRead.{starts-within, names-read, values-are, values-read}
 use Rattle.sheet.proofs.LineKinds.{Shape, shape-store, Room, numbers-stored, SameCounts, store-counts, store-other, names-store, names-fault, numbers-width}
-use Rattle.sheet.proofs.SheetText.{fault-padded}
+use Rattle.sheet.proofs.TestedLines.{fault-padded}
 
 -- an accepted line of kind `l`: its numbers, which pass, are stored, and the bytes are its text
 pub record LineIs (l : Line) (c : Schedule) (s : List ℕ) (at : ℕ) (p : Part) : Type 0 where
@@ -104,7 +104,7 @@ same-line h m = rw (h .inputs-same)
 lines-joined : (k n : ℕ) (c : Schedule) (s : List ℕ) (at next : ℕ) (xs : List ℤ) (p : Part) → 3 ≤ n → Within c (n + suc k)
     → length xs ≡ width (lineAt c n) → fault (lineAt c n) (padded xs) ≡ 0 → drop at s ≡ lineText (lineAt c n) xs ++ drop next s
     → LinesAre k (suc n) (store c (lineAt c n) (padded xs)) s next p → LinesAre (suc k) n c s at p
-unfolding linesText textAt faultAt
+unfolding texts textAt faultAt
 lines-joined k n c s at next xs p g w count passes is r =
     let l : Line = lineAt c n in
     let d : Schedule = p .schedule in
@@ -130,7 +130,7 @@ lines-joined k n c s at next xs p g w count passes is r =
 
 pub lines-sound : (k n : ℕ) (c : Schedule) (s : List ℕ) (at : ℕ) → 3 ≤ n → Within c (n + k) → at ≤ length s
     → readLines k n c s at .refusal .number ≡ 0 → LinesAre k n c s at (readLines k n c s at)
-unfolding readLines linesText
+unfolding readLines texts
 lines-sound zero n c s at g w h = λ z. record {
   is = refl;
   upto = h;
@@ -158,7 +158,7 @@ copied (suc k) n w c = copied k (suc n) w (store c (lineAt w n) (padded (numbers
 pub lines-complete : (k n : ℕ) (w c : Schedule) (s : List ℕ) (at : ℕ) (rest : List ℕ) → 3 ≤ n → SameCounts c w
     → ((m : ℕ) → n ≤ m → m < n + k → (faultAt w m ≡ 0) × TenDigits (numbers w (lineAt w m)))
     → drop at s ≡ linesText k n w ++ rest → readLines k n c s at ≡ partRead (at + length (linesText k n w)) (copied k n w c)
-unfolding readLines linesText textAt faultAt copied
+unfolding readLines texts textAt faultAt copied
 lines-complete zero n w c s at rest g t f e = rw add-zero
 lines-complete (suc k) n w c s at rest g t f e =
     let l : Line = lineAt w n in

@@ -25,3 +25,8 @@ endByte (suc k) = 32
 unfoldable pub line : List ℤ → List ℕ
 line [] = []
 line (x ∷ xs) = numeral x ++ (endByte (length xs) ∷ line xs)
+
+-- `k` texts, one behind the other, from number `n` on.
+unfoldable pub texts : ℕ → ℕ → (ℕ → List ℕ) → List ℕ
+texts zero n f = []
+texts (suc k) n f = f n ++ texts k (suc n) f

@@ -1,11 +1,12 @@
 -- The test of a handed schedule by 3, 4 and 5 "as its lines would stand", its sheet, and what writing it leaves.
 use mathlib.Core.Path.{_≡_}
-use mathlib.Core.List.{List, [], _++_}
+use mathlib.Core.List.{List}
 use Prim.Native.Nat.{ℕ, zero, suc, _+_}
 use lib.Dec.{ltb, eqb}
 use lib.ListN.{length}
 use lib.Seq.{sets}
 use Rattle.sheet.specs.Choice.{pick}
+use Rattle.sheet.specs.Text.{texts}
 use Rattle.sheet.specs.Causes.{refusal, accepted, bytesTooShort}
 use Rattle.sheet.specs.Lines.{lineAt, linesLeft, numbers, lineText}
 use Rattle.sheet.specs.Tests.{fault}
@@ -31,9 +32,8 @@ unfoldable pub textAt : Schedule → ℕ → List ℕ
 textAt c n = lineText (lineAt c n) (numbers c (lineAt c n))
 
 -- The text of `k` lines from line `n` on.
-unfoldable pub linesText : ℕ → ℕ → Schedule → List ℕ
-linesText zero n c = []
-linesText (suc k) n c = textAt c n ++ linesText k (suc n) c
+abbrev pub linesText : ℕ → ℕ → Schedule → List ℕ
+linesText k n c = texts k n (textAt c)
 
 -- The sheet of a schedule.
 unfoldable pub sheetText : Schedule → List ℕ

@@ -8,7 +8,7 @@ use borrow.Author.Tests.{not-true, not-false}
 use Rattle.sheet.specs.Choice.{pick}
 use Rattle.sheet.specs.Causes.{stepWrong}
 use Rattle.sheet.specs.Writing.{faultAt, testLines}
-use Rattle.sheet.proofs.SheetText.{test-more, test-stop, test-done}
+use Rattle.sheet.proofs.TestedLines.{test-more, test-stop, test-done}
 use Rattle.sheet.proofs.Blocks.{step-fault}
 use Rattle.sheet.proofs.tests.test_steps.Statement.{statement}
 use Rattle.sheet.proofs.tests.test_steps.Tie as tie

@@ -7,10 +7,11 @@ use lib.ListN.{length}
 use mir.Syntax.{w64}
 use mir.Val.{toZ, ofZ}
 use Rattle.sheet.specs.Lines.{natural, lineText, numbers}
+use Rattle.sheet.specs.Text.{texts}
 use Rattle.sheet.specs.Writing.{linesText, textAt}
 use Rattle.sheet.specs.Wrote.{Wrote}
 use Rattle.sheet.proofs.Written.{wrote-then}
-use Rattle.sheet.proofs.SheetText.{text-more, text-room}
+use Rattle.sheet.proofs.Texts.{texts-more, texts-room}
 use Rattle.sheet.proofs.writer.put_lines.Statement.{statement}
 use Rattle.sheet.proofs.writer.put_lines.Tie as tie
 
@@ -33,7 +34,7 @@ natural-requires : tie.Need-natural-requires Inv-loop μ-loop
 natural-requires c κs = search needs
 
 loop-holds : tie.Need-loop-holds Inv-loop μ-loop
-unfolding linesText
+unfolding texts
 loop-holds c = (omega arith, refl, record { ends = omega arith; is = refl })
 
 add-line-of : tie.Need-add-line-of Inv-loop μ-loop
@@ -46,7 +47,8 @@ put-line-requires : tie.Need-put-line-requires Inv-loop μ-loop
 put-line-requires c κs =
     let l = c .before .before .before .loop in
     let a = c .before .before .before .before .before .before .before .args in
-    omega (arith, ap length (text-is c), text-room (a .c) (a .count) (l .i) (omega arith), l .inv .2 .ends)
+    let n : 1 + l .i ≡ l .i + 1 = omega arith in
+    omega (arith, ap length (text-is c), rw n at (texts-room (textAt (a .c)) (a .count) 1 (l .i) (omega arith)), l .inv .2 .ends)
 
 add-i : tie.Need-add-i Inv-loop μ-loop
 add-i c = search needs
@@ -62,7 +64,7 @@ loop-again c =
     let n : 1 + l .i ≡ l .i + 1 = omega arith in (
       omega arith,
       f .kept .0 ∙ l .inv .1,
-      rw (text-more (l .i) 1 (a .c), n) (wrote-then (l .inv .2) (rw (text-is (c .before .before .before)) at (f .ensures))),
+      rw (texts-more (textAt (a .c)) (l .i) 1, n) (wrote-then (l .inv .2) (rw (text-is (c .before .before .before)) at (f .ensures))),
     )
 
 same-length : tie.Need-same-length Inv-loop μ-loop

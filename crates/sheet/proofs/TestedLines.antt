@@ -1,17 +1,13 @@
--- The test and the text of several lines, one line more for the loops.
-use mathlib.Core.Path.{_≡_, refl, ap, _∙_}
-use mathlib.Core.List.{List, _++_, append-assoc, append-nil}
-use Prim.Native.Nat.{ℕ, zero, suc, _+_, _-_, _≤_, _<_}
-use native.Mathlib.Nat.{add-zero, add-suc, suc-add}
-use native.Mathlib.Numerals.{add-one}
+-- The test of several lines, one line more for the loops.
+use mathlib.Core.Path.{_≡_, refl}
+use Prim.Native.Nat.{ℕ, suc, _+_, _-_, _≤_, _<_}
 use native.Mathlib.Omega.{arith}
 use borrow.Author.Tests.{eq-eqb, ne-eqb}
-use lib.ListN.{length, length-append}
 use Rattle.sheet.specs.Causes.{refusal, accepted}
 use Rattle.sheet.specs.Lines.{numbers}
 use Rattle.sheet.specs.Tests.{fault}
 use Rattle.sheet.specs.Reading.{padded}
-use Rattle.sheet.specs.Writing.{faultAt, testLines, textAt, linesText}
+use Rattle.sheet.specs.Writing.{faultAt, testLines}
 use Rattle.sheet.specs.declared.Schedule.{Schedule}
 use Rattle.sheet.specs.declared.Line.{Line}
 use Rattle.sheet.specs.declared.Line.the-variants.{CountNames, CountLine, EndNames, EndLine, StepNames, StepLine}
@@ -44,30 +40,3 @@ module _ (c : Schedule) (count first i : ℕ) where
   pub test-done : count ≤ i → testLines (count - i) (first + i) c ≡ accepted
   unfolding testLines
   test-done h = let e : count - i ≡ 0 = omega arith in rw e
-
--- the loop of `put_lines`
-pub text-more : (k n : ℕ) (c : Schedule) → linesText (k + 1) n c ≡ linesText k n c ++ textAt c (n + k)
-unfolding linesText
-text-more k n c = rw add-one (go k n)
-  where
-    go : (k n : ℕ) → linesText (suc k) n c ≡ linesText k n c ++ textAt c (n + k)
-    go zero n = rw (add-zero, append-nil)
-    go (suc k) n = ap (λ (l : List ℕ). textAt c n ++ l) (go k (suc n)) ∙ rw (append-assoc, add-suc, suc-add)
-
-pub text-longer : (k m n : ℕ) (c : Schedule) → k ≤ m → length (linesText k n c) ≤ length (linesText m n c)
-unfolding linesText
-text-longer zero m n c h = omega arith
-text-longer (suc k) zero n c h = absurd (omega arith)
-text-longer (suc k) (suc m) n c h =
-    rw (length-append (textAt c n) (linesText k (suc n) c), length-append (textAt c n) (linesText m (suc n) c)) (omega (arith, text-longer k m (suc n) c (omega arith)))
-
--- line `i + 1` has its room where the first `count` lines have theirs
-pub text-room : (c : Schedule) (count i : ℕ) → i < count → length (linesText i 1 c) + length (textAt c (i + 1)) ≤ length (linesText count 1 c)
-text-room c count i h =
-    let e : 1 + i ≡ i + 1 = omega arith in
-    omega (
-      arith,
-      ap length (rw e at (text-more i 1 c)),
-      length-append (linesText i 1 c) (textAt c (i + 1)),
-      text-longer (i + 1) count 1 c (omega arith),
-    )
