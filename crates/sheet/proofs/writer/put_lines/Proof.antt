@@ -9,7 +9,7 @@ use mir.Val.{toZ, ofZ}
 use Rattle.sheet.specs.Lines.{natural, lineText, numbers}
 use Rattle.sheet.specs.Writing.{linesText, textAt}
 use Rattle.sheet.specs.Wrote.{Wrote}
-use Rattle.sheet.proofs.Written.{wrote-then}
+use Rattle.sheet.proofs.Written.{wrote-none, wrote-then}
 use Rattle.sheet.proofs.SheetText.{text-more, text-room}
 use Rattle.sheet.proofs.writer.put_lines.Statement.{statement}
 use Rattle.sheet.proofs.writer.put_lines.Tie as tie
@@ -34,7 +34,7 @@ natural-requires c κs = search needs
 
 loop-holds : tie.Need-loop-holds Inv-loop μ-loop
 unfolding linesText
-loop-holds c = (omega arith, refl, record { ends = omega arith; is = refl })
+loop-holds c = (omega arith, refl, wrote-none _ _)
 
 add-line-of : tie.Need-add-line-of Inv-loop μ-loop
 add-line-of c = search needs
