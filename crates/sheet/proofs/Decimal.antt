@@ -62,3 +62,17 @@ pub numeral-width : (d : ℕ) (v : ℤ) → natAbs v < 10 ^ suc d → length (nu
 unfolding numeral
 numeral-width d (pos n) h = omega (arith, decimal-width 10 d n h)
 numeral-width d (negsuc n) h = omega (arith, decimal-width 10 d (suc n) h)
+
+-- whatever the number, a numeral is a minus and ten digits at the most
+decimal-short : (k n : ℕ) → length (decimal k n) ≤ k
+unfolding decimal
+decimal-short zero n = omega arith
+decimal-short (suc k) n =
+    pick-elim (λ (l : List ℕ). length l ≤ suc k) (ltb n 10) _ _
+    (λ e. omega arith)
+    (λ e. rw (length-append (decimal k (n / 10)) ((n % 10 + 48) ∷ [])) (omega (arith, decimal-short k (n / 10))))
+
+pub numeral-short : (v : ℤ) → length (numeral v) ≤ 11
+unfolding numeral
+numeral-short (pos n) = omega (arith, decimal-short 10 n)
+numeral-short (negsuc n) = omega (arith, decimal-short 10 (suc n))

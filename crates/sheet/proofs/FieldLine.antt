@@ -2,12 +2,12 @@
 use mathlib.Core.Path.{_≡_, refl, sym, ap, _∙_}
 use mathlib.Core.Bool.{true}
 use mathlib.Core.List.{List, [], _∷_, _++_, append-assoc}
-use Prim.Native.Nat.{ℕ, zero, suc, _+_, _-_, _≤_, _<_}
+use Prim.Native.Nat.{ℕ, zero, suc, _+_, _-_, _*_, _≤_, _<_}
 use native.Mathlib.Nat.{add-zero}
 use native.Mathlib.Numerals.{add-one}
 use native.Mathlib.Omega.{arith}
-use lib.ListN.{length, drop, getD, take, set, length-append}
-use lib.Seq.{sets, drop-drop, drop-append-seam, getD-take, length-take-le}
+use lib.ListN.{length, drop, getD, set, length-append}
+use lib.Seq.{sets, drop-drop, drop-append-seam}
 use lib.IntN.{ℤ, pos, negsuc, natAbs}
 use mir.Syntax.{w64}
 use mir.Val.{SFits}
@@ -17,6 +17,7 @@ use Rattle.sheet.specs.Reading.{onField, zeros, padded, noFields, fields
 use Rattle.sheet.specs.declared.number.Field.{Field}
 use Rattle.sheet.specs.declared.number.Field.the-variants.{Number, Broken}
 use Rattle.sheet.specs.declared.fields.Fields.{Fields}
+use Rattle.sheet.proofs.Decimal.{numeral-short}
 use Rattle.sheet.proofs.Numeral.{field-sound, field-complete}
 
 pub end-byte-last : (i k : ℕ) → k - i ≡ 1 → 10 ≡ endByte (k - (i + 1))
@@ -167,17 +168,18 @@ front-short (suc i) [] = omega arith
 front-short (suc i) (x ∷ xs) =
     rw (length-append (numeral x) (endByte (length xs) ∷ front i xs), length-append (numeral x) (endByte (length xs) ∷ line xs)) (omega (arith, front-short i xs))
 
-module _ (v : List ℤ) (k i : ℕ) (room : k ≤ length v) (h : i < k) where
-  pub front-next : front (i + 1) (take k v) ≡ front i (take k v) ++ (numeral (getD v i (pos 0)) ++ (endByte (k - (i + 1)) ∷ []))
-  front-next =
-      let n : length (take k v) ≡ k = length-take-le k v room in
-      front-more i (take k v) (omega arith) ∙ rw (n, getD-take k v i (pos 0) h)
+pub front-room : (i : ℕ) (xs : List ℤ) → i < length xs
+    → length (front i xs) + length (numeral (getD xs i (pos 0)) ++ (endByte (length xs - (i + 1)) ∷ [])) ≤ length (line xs)
+front-room i xs h =
+    omega (
+      arith,
+      front-short (i + 1) xs,
+      ap length (front-more i xs h),
+      length-append (front i xs) (numeral (getD xs i (pos 0)) ++ (endByte (length xs - (i + 1)) ∷ [])),
+    )
 
-  pub front-room : length (front i (take k v)) + length (numeral (getD v i (pos 0)) ++ (endByte (k - (i + 1)) ∷ [])) ≤ length (line (take k v))
-  front-room =
-      omega (
-        arith,
-        front-short (i + 1) (take k v),
-        ap length front-next,
-        length-append (front i (take k v)) (numeral (getD v i (pos 0)) ++ (endByte (k - (i + 1)) ∷ [])),
-      )
+-- a field has 12 bytes at the most
+pub line-short : (xs : List ℤ) → length (line xs) ≤ 12 * length xs
+unfolding line
+line-short [] = omega arith
+line-short (x ∷ xs) = rw (length-append (numeral x) (endByte (length xs) ∷ line xs)) (omega (arith, numeral-short x, line-short xs))

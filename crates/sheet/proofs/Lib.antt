@@ -1,4 +1,5 @@
--- The laws, from the number field up to the theorems. `RoundTrip` and `FirstFault` have the four theorems on sheets, `Passed` what evaluation cites.
+-- The laws, from the number field up to the theorems. `RoundTrip` and `FirstFault` have the four theorems on sheets, `Passed` what evaluation cites;
+-- a library that writes lines of its own needs `numeral-short` (`Decimal`), `line-short` (`FieldLine`) and `wrote-then` (`Written`).
 pub mod Choice
 pub mod Signs
 pub mod Digits

@@ -5,11 +5,12 @@ use Prim.Native.Nat.{ℕ, _+_, _-_, _≤_, _<_}
 use native.Mathlib.Omega.{arith}
 use native.Mathlib.Decide.{decLt, ℕ-discrete}
 use borrow.Author.Tests.{lt-ltb, le-ltb, lt-leb, eq-eqb, ne-eqb}
-use lib.ListN.{length, length-set}
+use lib.ListN.{length, take, length-set}
 use lib.Seq.{getD-set-same, getD-set-other}
 use lib.IntN.{ℤ}
 use Rattle.sheet.specs.Limits.{maxInputs, maxSteps}
-use Rattle.sheet.specs.Lines.{lineOf, width, numbers, store, endsOf, stepOf, zeroEnd, zeroStep, endNumbers, stepNumbers}
+use Rattle.sheet.specs.Text.{line}
+use Rattle.sheet.specs.Lines.{lineOf, names, width, numbers, lineText, store, endsOf, stepOf, zeroEnd, zeroStep, endNumbers, stepNumbers}
 use Rattle.sheet.specs.Tests.{fault}
 use Rattle.sheet.specs.Reading.{padded}
 use Rattle.sheet.specs.declared.End.{End}
@@ -189,3 +190,23 @@ numbers-width c EndNames = refl
 numbers-width c (EndLine i) = refl
 numbers-width c StepNames = refl
 numbers-width c (StepLine i r) = refl
+
+-- the zeros behind a line's numbers are none of them
+numbers-front : (c : Schedule) (l : Line) → take (width l) (padded (numbers c l)) ≡ numbers c l
+unfolding numbers
+numbers-front c CountNames = refl
+numbers-front c CountLine = refl
+numbers-front c EndNames = refl
+numbers-front c (EndLine i) = refl
+numbers-front c StepNames = refl
+numbers-front c (StepLine i r) = refl
+
+-- a line's text by its width, as `put_line` writes it
+module _ (c : Schedule) (l : Line) where
+  pub text-of-names : width l ≡ 0 → lineText l (numbers c l) ≡ names l
+  unfolding lineText
+  text-of-names e = rw e
+
+  pub text-of-numbers : (width l ≡ 0 → ⊥) → lineText l (numbers c l) ≡ line (take (width l) (padded (numbers c l)))
+  unfolding lineText
+  text-of-numbers f = simp (ne-eqb (width l) 0 f, numbers-front c l)

@@ -1,5 +1,5 @@
 -- Writing one text behind another is writing the two joined.
-use mathlib.Core.Path.{_≡_, _∙_}
+use mathlib.Core.Path.{_≡_, refl, sym, _∙_}
 use mathlib.Core.List.{List, [], _∷_, _++_}
 use Prim.Native.Nat.{ℕ, suc, _+_}
 use native.Mathlib.Nat.{add-zero, add-suc, suc-add}
@@ -14,6 +14,9 @@ sets-append (x ∷ xs) ys l i = rw (add-suc, ← suc-add) (sets-append xs ys (se
 
 pub sets-snoc : (xs l : List ℕ) (i b : ℕ) → set (sets l i xs) (i + length xs) b ≡ sets l i (xs ++ (b ∷ []))
 sets-snoc xs l i b = sets-append xs (b ∷ []) l i
+
+pub wrote-none : (a : List ℕ) (i : ℕ) → Wrote a a i i []
+wrote-none a i = record { ends = sym (add-zero i); is = refl }
 
 pub wrote-then : {a b c xs ys : List ℕ} {i j k : ℕ} → Wrote a b i j xs → Wrote b c j k ys → Wrote a c i k (xs ++ ys)
 wrote-then {a} {b} {c} {xs} {ys} {i} {j} {k} w v = record {

@@ -3,7 +3,7 @@ use crate::number;
 use crate::number::Field;
 ghost use mathlib.Core.Path.{_≡_};
 ghost use Prim.Native.Nat.{_+_, _-_, _≤_, _<_};
-ghost use lib.ListN.{length, drop, take};
+ghost use lib.ListN.{length, drop};
 ghost use Rattle.sheet.specs.Text.{endByte, line};
 ghost use Rattle.sheet.specs.Reading.{fieldsAt, starts};
 ghost use Rattle.sheet.specs.Wrote.{Wrote};
@@ -85,16 +85,16 @@ pub fn put_bytes(out: &mut [u8], at: usize, t: &[u8]) -> usize
     at + i
 }
 
-// Writes a line of the first k numbers.
-pub fn put_fields(out: &mut [u8], at: usize, v: [i64; 4], k: usize) -> usize
-    requires { ⌜ (at + length (line (take k v)) ≤ length (now out)) × (k ≤ 4) ⌝ }
-    ensures { λ r. ⌜ Wrote (now (out .entry)) (now (out .exit)) at r (line (take k v)) ⌝ }
+// Writes a line of numbers.
+pub fn put_fields(out: &mut [u8], at: usize, v: &[i64]) -> usize
+    requires { ⌜ at + length (line (now v)) ≤ length (now out) ⌝ }
+    ensures { λ r. ⌜ Wrote (now (out .entry)) (now (out .exit)) at r (line (now (v .entry))) ⌝ }
 {
     let mut p = at;
     let mut i = 0;
-    while i < k {
+    while i < v.len() {
         let x = v[i];
-        p = number::put_field(out, p, x, end_byte(i, k));
+        p = number::put_field(out, p, x, end_byte(i, v.len()));
         i += 1;
     }
     p

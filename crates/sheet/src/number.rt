@@ -151,8 +151,8 @@ fn put_byte(out: &mut [u8], at: usize, b: u8) -> usize
     at + 1
 }
 
-// Writes a number.
-fn put_number(out: &mut [u8], at: usize, v: i64) -> usize
+// Writes a number of up to ten digits; of a longer one, which no sheet has, the last ten.
+pub fn put_number(out: &mut [u8], at: usize, v: i64) -> usize
     requires { ⌜ at + length (numeral v) ≤ length (now out) ⌝ }
     ensures { λ r. ⌜ Wrote (now (out .entry)) (now (out .exit)) at r (numeral v) ⌝ }
 {

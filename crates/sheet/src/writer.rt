@@ -5,22 +5,36 @@ use crate::fields;
 use crate::lines;
 ghost use Prim.Native.Nat.{_+_, _≤_, _<_, _^_};
 ghost use lib.ListN.{length};
-ghost use Rattle.sheet.specs.Lines.{lineText, numbers};
+ghost use Rattle.sheet.specs.Lines.{names, numbers, lineText};
 ghost use Rattle.sheet.specs.Writing.{linesText};
 ghost use Rattle.sheet.specs.Wrote.{Wrote};
+
+// Writes the names of a line of names.
+fn put_names(out: &mut [u8], at: usize, l: Line) -> usize
+    requires { ⌜ at + length (names l) ≤ length (now out) ⌝ }
+    ensures { λ r. ⌜ Wrote (now (out .entry)) (now (out .exit)) at r (names l) ⌝ }
+{
+    match l {
+        Line::CountNames => fields::put_bytes(out, at, b"inputs squares steps\n"),
+        Line::EndNames => fields::put_bytes(out, at, b"low high\n"),
+        Line::StepNames => fields::put_bytes(out, at, b"step first second value\n"),
+        Line::CountLine => at,
+        Line::EndLine(_) => at,
+        Line::StepLine(_, _) => at,
+    }
+}
 
 // Writes a line of the schedule's sheet.
 fn put_line(out: &mut [u8], at: usize, c: Schedule, l: Line) -> usize
     requires { ⌜ at + length (lineText l (numbers c l)) ≤ length (now out) ⌝ }
     ensures { λ r. ⌜ Wrote (now (out .entry)) (now (out .exit)) at r (lineText l (numbers c l)) ⌝ }
 {
-    match l {
-        Line::CountNames => fields::put_bytes(out, at, b"inputs squares steps\n"),
-        Line::EndNames => fields::put_bytes(out, at, b"low high\n"),
-        Line::StepNames => fields::put_bytes(out, at, b"step first second value\n"),
-        Line::CountLine => fields::put_fields(out, at, lines::numbers(c, l), 3),
-        Line::EndLine(_) => fields::put_fields(out, at, lines::numbers(c, l), 2),
-        Line::StepLine(_, _) => fields::put_fields(out, at, lines::numbers(c, l), 4),
+    let k = lines::width(l);
+    if k == 0 {
+        put_names(out, at, l)
+    } else {
+        let v = lines::numbers(c, l);
+        fields::put_fields(out, at, &v[..k])
     }
 }
 

@@ -10,7 +10,7 @@ use Rattle.sheet.specs.Lines.{natural, lineText, numbers}
 use Rattle.sheet.specs.Text.{texts}
 use Rattle.sheet.specs.Writing.{linesText, textAt}
 use Rattle.sheet.specs.Wrote.{Wrote}
-use Rattle.sheet.proofs.Written.{wrote-then}
+use Rattle.sheet.proofs.Written.{wrote-none, wrote-then}
 use Rattle.sheet.proofs.Texts.{texts-more, texts-room}
 use Rattle.sheet.proofs.writer.put_lines.Statement.{statement}
 use Rattle.sheet.proofs.writer.put_lines.Tie as tie
@@ -35,7 +35,7 @@ natural-requires c κs = search needs
 
 loop-holds : tie.Need-loop-holds Inv-loop μ-loop
 unfolding texts
-loop-holds c = (omega arith, refl, record { ends = omega arith; is = refl })
+loop-holds c = (omega arith, refl, wrote-none _ _)
 
 add-line-of : tie.Need-add-line-of Inv-loop μ-loop
 add-line-of c = search needs
