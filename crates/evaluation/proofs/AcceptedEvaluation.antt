@@ -1,5 +1,5 @@
--- What an accepted evaluation shows: its schedule passed, the table has room, every row was worked, and none of them is refused when asked for.
-use mathlib.Core.Path.{_≡_, sym, ap, _∙_, subst}
+-- What an accepted evaluation shows: its schedule passed, the table has room, every row was worked, and the table holds them.
+use mathlib.Core.Path.{_≡_, sym, ap, _∙_}
 use mathlib.Core.Logic.{_⊎_, inl, inr}
 use mathlib.Core.List.{List}
 use Prim.Native.Nat.{ℕ, _*_, _≤_, _<_}
@@ -9,11 +9,10 @@ use lib.IntN.{ℤ}
 use lib.ListN.{length}
 use Rattle.affine.specs.Limits.{symbols}
 use Rattle.sheet.specs.declared.Schedule.{Schedule}
-use Rattle.sheet.specs.Causes.{accepted}
 use Rattle.sheet.specs.Writing.{testOf}
 use Rattle.sheet.proofs.Passed.{Passed, passed}
 use Rattle.evaluation.specs.Table.{rowWidth, tableAfter, RowsWithin}
-use Rattle.evaluation.specs.Work.{rowCount, worked, evaluated}
+use Rattle.evaluation.specs.Work.{rowCount, evaluated}
 use Rattle.evaluation.proofs.EvaluationEnds.{ends-tested, ends-short, ends-worked}
 use Rattle.evaluation.proofs.Induction.{lt-or-ge}
 use Rattle.evaluation.proofs.Made.{rows-few}
@@ -27,29 +26,24 @@ pub record AcceptedEvaluation (c : Schedule) (table : List ℤ) : Type 0 where
   pub goes : Went c (rowCount c)
   pub rows : evaluated c table .rows ≡ rowsUpTo c (rowCount c)
 
-pub accepted-evaluation : (c : Schedule) (table : List ℤ) → evaluated c table .refusal ≡ accepted → AcceptedEvaluation c table
+pub accepted-evaluation : (c : Schedule) (table : List ℤ) → evaluated c table .refusal .number ≡ 0 → AcceptedEvaluation c table
 accepted-evaluation c table e = by-test (ℕ-discrete (testOf c .number) 0) (lt-or-ge (length table) (rowWidth * rowCount c))
   where
     by-test : Dec (testOf c .number ≡ 0) → (length table < rowWidth * rowCount c) ⊎ (rowWidth * rowCount c ≤ length table) → AcceptedEvaluation c table
-    by-test (no z) r = absurd (z (sym (ap (λ w. w .refusal .number) (ends-tested c table z)) ∙ ap (λ f. f .number) e))
-    by-test (yes z) (inl l) = absurd (let q : _≡_ {A = ℕ} 8 0 = sym (ap (λ w. w .refusal .number) (ends-short c table z l)) ∙ ap (λ f. f .number) e in omega arith)
+    by-test (no z) r = absurd (z (sym (ap (λ w. w .refusal .number) (ends-tested c table z)) ∙ e))
+    by-test (yes z) (inl l) = absurd (let q : _≡_ {A = ℕ} 8 0 = sym (ap (λ w. w .refusal .number) (ends-short c table z l)) ∙ e in omega arith)
     by-test (yes z) (inr l) =
         let q = ends-worked c table z l in
-        let w = went c (rowCount c) (ap (λ f. f .number) (sym (ap (λ w. w .refusal) q) ∙ e)) in
+        let w = went c (rowCount c) (sym (ap (λ w. w .refusal .number) q) ∙ e) in
         record { pass = passed c z; room = l; goes = w; rows = ap (λ w. w .rows) q ∙ w .rows }
 
--- the table that it leaves
-pub record Left (c : Schedule) (left : List ℤ) : Type 0 where
-  pub few : rowCount c ≤ symbols
-  pub within : RowsWithin left (rowCount c)
+-- its rows are few, and the table that it leaves holds them
+pub rows-left-few : (c : Schedule) (table : List ℤ) → evaluated c table .refusal .number ≡ 0 → rowCount c ≤ symbols
+rows-left-few c table e = rows-few c (accepted-evaluation c table e .pass)
 
-pub evaluation-leaves : (c : Schedule) (table : List ℤ) → evaluated c table .refusal ≡ accepted → Left c (tableAfter (evaluated c table .rows) table)
-evaluation-leaves c table e =
+pub rows-left-within : (c : Schedule) (table : List ℤ) → evaluated c table .refusal .number ≡ 0 → RowsWithin (tableAfter (evaluated c table .rows) table) (rowCount c)
+rows-left-within c table e =
     let a = accepted-evaluation c table e in
-    record {
-      few = rows-few c (a .pass);
-      within =
-          rows-within
-          (record { none-refused = ap (λ r. r .number) (a .goes .refusal); left = ap (λ rows. tableAfter rows table) (a .rows ∙ sym (a .goes .rows)) })
-          (a .room);
-    }
+    rows-within
+    (record { none-refused = ap (λ r. r .number) (a .goes .refusal); left = ap (λ rows. tableAfter rows table) (a .rows ∙ sym (a .goes .rows)) })
+    (a .room)

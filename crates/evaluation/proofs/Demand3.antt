@@ -246,5 +246,5 @@ module _ (c : Schedule) (pass : Passed c) (x : ℕ → Fraction) (within : Input
 -- DEMAND 3: of every schedule and lent table whose evaluation is accepted, and all inputs within their ends.
 pub demand-3 : Demand-3
 demand-3 c table e x within =
-    let a = accepted-evaluation c table e in
+    let a = accepted-evaluation c table (ap (λ r. r .number) e) in
     subst (λ rows. Demand3 c rows (tableAfter rows table) x) (sym (a .rows)) (holds c (a .pass) x within (a .goes) table (a .room))

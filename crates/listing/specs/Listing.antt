@@ -7,7 +7,7 @@ use lib.ListN.{replicate}
 use Rattle.affine.specs.Lists.{pick, at}
 use Rattle.sheet.specs.declared.Schedule.{Schedule}
 use Rattle.sheet.specs.declared.Refusal.{Refusal}
-use Rattle.sheet.specs.Text.{line}
+use Rattle.sheet.specs.Text.{line, texts}
 use Rattle.sheet.specs.Reading.{readOf}
 use Rattle.evaluation.specs.Table.{tableAfter}
 use Rattle.evaluation.specs.Work.{rowCount, evaluated}
@@ -31,10 +31,9 @@ abbrev pub rowNumbers : List ℤ → ℕ → ℕ → List ℤ
 rowNumbers table count row =
     pos row ∷ rangeOf table count row .low ∷ rangeOf table count row .high ∷ own table count row ∷ pos (firstSame table count row) ∷ []
 
--- the lines of n rows from one on, each with one space between its numbers and byte 10 at its end, as on a sheet
-unfoldable pub rowLines : List ℤ → ℕ → ℕ → ℕ → List ℕ
-rowLines table count row zero = []
-rowLines table count row (suc n) = line (rowNumbers table count row) ++ rowLines table count (suc row) n
+-- a row's line, with one space between its numbers and byte 10 at its end, as on a sheet
+unfoldable pub rowText : List ℤ → ℕ → ℕ → List ℕ
+rowText table count row = line (rowNumbers table count row)
 
 -- "row low high own same", with byte 10
 abbrev pub columnNames : List ℕ
@@ -42,7 +41,7 @@ columnNames = 114 ∷ 111 ∷ 119 ∷ 32 ∷ 108 ∷ 111 ∷ 119 ∷ 32 ∷ 104 
 
 -- the listing of the rows that a table holds
 unfoldable pub listing : List ℤ → ℕ → List ℕ
-listing table count = columnNames ++ rowLines table count 1 count
+listing table count = columnNames ++ texts count 1 (rowText table count)
 
 -- "refused place", with byte 10
 abbrev pub refusalNames : List ℕ

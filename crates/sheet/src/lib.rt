@@ -14,9 +14,10 @@ mod writer; // writer.rt: a schedule written, line by line
 // What a count is as a natural number, for the callers of `test`.
 pub use lines::natural;
 
-// Bytes, a number and a line of numbers written at a position, for libraries that write lines of their own.
+// Bytes, a number, a count and a line of numbers written at a position, for libraries that write lines of their own.
 pub use fields::put_bytes;
 pub use fields::put_fields;
+pub use number::put_count;
 pub use number::put_number;
 
 // Limits of document 01; specs/Limits.antt has the same names for definitions and laws.

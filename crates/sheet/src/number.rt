@@ -3,7 +3,7 @@ ghost use mathlib.Core.Path.{_≡_};
 ghost use mathlib.Core.List.{_++_, _∷_, []};
 ghost use Prim.Native.Nat.{_+_, _≤_, _<_, _^_};
 ghost use lib.ListN.{length, drop, getD};
-ghost use lib.IntN.{natAbs};
+ghost use lib.IntN.{pos, natAbs};
 ghost use Rattle.sheet.specs.Number.{digitOf, run, signedOf, judged, afterSign, fieldAt};
 ghost use Rattle.sheet.specs.Text.{decimal, numeral};
 ghost use Rattle.sheet.specs.Wrote.{Wrote};
@@ -163,6 +163,14 @@ pub fn put_number(out: &mut [u8], at: usize, v: i64) -> usize
     } else {
         put_digits(out, at, n, 10)
     }
+}
+
+// Writes a count of up to ten digits.
+pub fn put_count(out: &mut [u8], at: usize, n: u64) -> usize
+    requires { ⌜ at + length (numeral (pos n)) ≤ length (now out) ⌝ }
+    ensures { λ r. ⌜ Wrote (now (out .entry)) (now (out .exit)) at r (numeral (pos n)) ⌝ }
+{
+    put_digits(out, at, n, 10)
 }
 
 // Writes a number and the byte t behind it.

@@ -1,0 +1,4 @@
+pub mod HeldRows
+pub mod FirstSame
+pub mod TextLength
+pub mod TextCases
