@@ -12,7 +12,7 @@ ghost use Rattle.sheet.specs.Limits.{maxInputs, maxSteps};
 ghost use Rattle.sheet.specs.Lines.{zeroSchedule, natural, width, names};
 ghost use Rattle.sheet.specs.Reading.{starts, partRead, partRefused, readLines, readSheet};
 ghost use Rattle.sheet.specs.Causes.{refusal};
-ghost use Rattle.sheet.specs.LineRead.{Told};
+ghost use Rattle.sheet.specs.LineRead.{brokenLine, toldOf};
 
 // A part of the sheet that was read or refused: where the next line starts, and the schedule so far.
 pub struct Part {
@@ -84,7 +84,7 @@ pub struct LineRead {
 
 // A line that breaks the layout.
 fn broken() -> LineRead
-    ensures { λ r. ⌜ r .number ≡ 2 ⌝ }
+    ensures { λ r. ⌜ r ≡ brokenLine ⌝ }
 {
     LineRead {
         number: 2,
@@ -96,7 +96,7 @@ fn broken() -> LineRead
 // A line of numbers: its layout first, then its meaning.
 fn read_values(s: &[u8], at: usize, l: Line) -> LineRead
     requires { ⌜ (at ≤ length (now s)) × (0 < width l) ⌝ }
-    ensures { λ r. ⌜ Told (now (s .entry)) at l r ⌝ }
+    ensures { λ r. ⌜ r ≡ toldOf (now (s .entry)) at l ⌝ }
 {
     let f = fields::fields_at(s, at, lines::width(l));
     if f.ok {
@@ -114,7 +114,7 @@ fn read_values(s: &[u8], at: usize, l: Line) -> LineRead
 // A line of names.
 fn read_names(s: &[u8], at: usize, l: Line) -> LineRead
     requires { ⌜ (at ≤ length (now s)) × (width l ≡ 0) ⌝ }
-    ensures { λ r. ⌜ Told (now (s .entry)) at l r ⌝ }
+    ensures { λ r. ⌜ r ≡ toldOf (now (s .entry)) at l ⌝ }
 {
     if names_stand(s, at, l) {
         LineRead {

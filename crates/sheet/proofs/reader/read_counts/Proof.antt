@@ -13,7 +13,7 @@ use Rattle.sheet.proofs.reader.read_counts.Tie as tie
 -- where the names stand the reading goes on behind them
 names-passed : (c : tie.Else1) → readLines 2 1 zeroSchedule (c .before .before .before .before .args .s .now) 0 ≡ readLines 1 2 zeroSchedule (c .before .before .before .before .args .s .now) (c .before .before .read-names .result .next)
 unfolding lineOf
-names-passed c = told-names (c .before .before .read-names .ensures) 1 1 zeroSchedule refl refl (c .if1 .left)
+names-passed c = told-names _ _ _ (c .before .before .read-names .ensures) 1 1 zeroSchedule refl refl (c .if1 .left)
 
 read-names-requires : tie.Need-read-names-requires
 read-names-requires c κs = search needs
@@ -23,17 +23,17 @@ refused-requires c κs = search needs
 
 returns : tie.Need-returns
 unfolding lineOf
-returns c = c .refused .ensures ∙ sym (told-stop (c .before .before .before .read-names .ensures) 1 1 zeroSchedule refl (c .before .if1 .taken))
+returns c = c .refused .ensures ∙ sym (told-stop _ _ _ (c .before .before .before .read-names .ensures) 1 1 zeroSchedule refl (c .before .if1 .taken))
 
 read-values-requires : tie.Need-read-values-requires
-read-values-requires c κs = (told-upto (c .before .before .read-names .ensures) (omega arith) (c .if1 .left), omega arith)
+read-values-requires c κs = (told-upto _ _ _ (c .before .before .read-names .ensures) (omega arith) (c .if1 .left), omega arith)
 
 refused-requires-2 : tie.Need-refused-requires-2
 refused-requires-2 c κs = search needs
 
 returns-2 : tie.Need-returns-2
 unfolding lineOf
-returns-2 c = c .refused2 .ensures ∙ sym (names-passed (c .before .before .before .before) ∙ told-stop (c .before .before .before .read-values .ensures) 0 2 zeroSchedule refl (c .before .if2 .taken))
+returns-2 c = c .refused2 .ensures ∙ sym (names-passed (c .before .before .before .before) ∙ told-stop _ _ _ (c .before .before .before .read-values .ensures) 0 2 zeroSchedule refl (c .before .if2 .taken))
 
 zero-schedule-requires : tie.Need-zero-schedule-requires
 zero-schedule-requires c κs = search needs
@@ -49,7 +49,7 @@ unfolding lineOf store
 returns-3 c =
     let s = c .before .before .before .before .before .before .before .before .before .before .before .args .s .now in
     let r = c .before .before .before .before .before .before in
-    let m = told-more (r .read-values .ensures) 0 2 zeroSchedule refl (c .before .before .before .before .if2 .left) in
+    let m = told-more _ _ _ (r .read-values .ensures) 0 2 zeroSchedule refl (c .before .before .before .before .if2 .left) in
     c .part-read .ensures ∙ rw (c .before .with-counts .ensures, c .before .before .zero-schedule .ensures)
     (sym (names-passed (r .before) ∙ m ∙ run-none 3 (store zeroSchedule CountLine (r .read-values .result .values)) s (r .read-values .result .next)))
 

@@ -25,7 +25,7 @@ names-passed : (c : tie.Else1 Inv-loop μ-loop)
     ≡ readLines (c .before .before .before .before .args .inputs) 4 (c .before .before .before .before .args .start) (c .before .before .before .before .args .s .now) (c .before .before .read-names .result .next)
 names-passed c =
     let a = c .before .before .before .before .args in
-    told-names (c .before .before .read-names .ensures) (a .inputs) 3 (a .start) (third-line (natural (a .start .inputs)) 3 refl) refl (c .if1 .left)
+    told-names _ _ _ (c .before .before .read-names .ensures) (a .inputs) 3 (a .start) (third-line (natural (a .start .inputs)) 3 refl) refl (c .if1 .left)
 
 -- the loop's line is the one of input `i`
 line-is : (c : tie.In-loop Inv-loop μ-loop) → lineAt (c .before .loop .c) (4 + c .before .loop .i) ≡ EndLine (c .before .loop .i)
@@ -42,13 +42,13 @@ refused-requires c κs = search needs
 returns : tie.Need-returns Inv-loop μ-loop
 returns c =
     let a = c .before .before .before .before .before .args in
-    c .refused .ensures ∙ sym (told-stop (c .before .before .before .read-names .ensures) (a .inputs) 3 (a .start) (third-line (natural (a .start .inputs)) 3 refl) (c .before .if1 .taken))
+    c .refused .ensures ∙ sym (told-stop _ _ _ (c .before .before .before .read-names .ensures) (a .inputs) 3 (a .start) (third-line (natural (a .start .inputs)) 3 refl) (c .before .if1 .taken))
 
 loop-holds : tie.Need-loop-holds Inv-loop μ-loop
 loop-holds c =
     let s = c .before .before .before .before in
     let e : s .args .inputs - 0 ≡ s .args .inputs = omega arith in
-    (omega arith, told-upto (c .before .before .read-names .ensures) (s .pre .0) (c .if1 .left), refl, rw e)
+    (omega arith, told-upto _ _ _ (c .before .before .read-names .ensures) (s .pre .0) (c .if1 .left), refl, rw e)
 
 read-values-requires : tie.Need-read-values-requires Inv-loop μ-loop
 read-values-requires c κs = (c .before .loop .inv .1, omega arith)
@@ -91,7 +91,7 @@ loop-again c =
     let t = c .before .before .before .before .read-values .ensures in
     let z = c .before .before .if2 .left in (
       omega arith,
-      told-upto t (l .inv .1) z,
+      told-upto _ _ _ t (l .inv .1) z,
       l .inv .2,
       l .inv .3 ∙ block-more (s .args .inputs) 4 (l .i) (l .c) (s .args .s .now) (l .next) t (line-is i) (omega arith) z ∙ rw (c .ends-of .ensures),
     )

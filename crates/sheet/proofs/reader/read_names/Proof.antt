@@ -3,7 +3,6 @@ use borrow.Author.Needs.{needs}
 use native.Mathlib.Omega.{arith}
 use mathlib.Core.Path.{sym, _∙_}
 use Rattle.sheet.specs.Lines.{names}
-use Rattle.sheet.specs.Reading.{zeros}
 use Rattle.sheet.proofs.LineRead.{starts-within}
 use Rattle.sheet.proofs.LineTold.{names-told, no-names-told}
 use Rattle.sheet.proofs.reader.read_names.Statement.{statement}
@@ -29,12 +28,12 @@ returns : tie.Need-returns
 returns c =
     let s = c .before .before .before .before in
     rw (c .names-length .ensures)
-    (names-told (s .args .s .now) (s .args .at) (s .args .l) zeros (s .pre .1) (sym (c .before .before .names-stand .ensures) ∙ c .before .if1 .taken))
+    (names-told (s .args .s .now) (s .args .at) (s .args .l) (s .pre .1) (sym (c .before .before .names-stand .ensures) ∙ c .before .if1 .taken))
 
 returns-2 : tie.Need-returns-2
 returns-2 c =
     let s = c .before .before .before .before in
-    no-names-told (s .args .s .now) (s .args .at) (s .args .l) (c .broken .result) (c .broken .ensures) (s .pre .1) (sym (c .before .before .names-stand .ensures) ∙ c .before .if1 .left)
+    c .broken .ensures ∙ no-names-told (s .args .s .now) (s .args .at) (s .args .l) (s .pre .1) (sym (c .before .before .names-stand .ensures) ∙ c .before .if1 .left)
 
 pub read-names-spec : {M : Type 1} → statement M
 read-names-spec =

@@ -33,7 +33,7 @@ names-passed : (c : tie.Else1 Inv-loop μ-loop)
 names-passed c =
     let a = c .before .before .before .before .args in
     let n : suc (4 + a .inputs) ≡ 5 + a .inputs = omega arith in
-    told-names (c .before .before .read-names .ensures) (a .steps) (4 + a .inputs) (a .start) (names-are (c .before .before)) refl (c .if1 .left) ∙ rw n
+    told-names _ _ _ (c .before .before .read-names .ensures) (a .steps) (4 + a .inputs) (a .start) (names-are (c .before .before)) refl (c .if1 .left) ∙ rw n
 
 -- the loop's line is the one of step `i`
 line-is : (c : tie.In-loop Inv-loop μ-loop)
@@ -55,13 +55,13 @@ refused-requires c κs = search needs
 returns : tie.Need-returns Inv-loop μ-loop
 returns c =
     let a = c .before .before .before .before .before .args in
-    c .refused .ensures ∙ sym (told-stop (c .before .before .before .read-names .ensures) (a .steps) (4 + a .inputs) (a .start) (names-are (c .before .before .before)) (c .before .if1 .taken))
+    c .refused .ensures ∙ sym (told-stop _ _ _ (c .before .before .before .read-names .ensures) (a .steps) (4 + a .inputs) (a .start) (names-are (c .before .before .before)) (c .before .if1 .taken))
 
 loop-holds : tie.Need-loop-holds Inv-loop μ-loop
 loop-holds c =
     let s = c .before .before .before .before in
     let e : s .args .steps - 0 ≡ s .args .steps = omega arith in
-    (omega arith, told-upto (c .before .before .read-names .ensures) (s .pre .0) (c .if1 .left), refl, rw (e, add-zero))
+    (omega arith, told-upto _ _ _ (c .before .before .read-names .ensures) (s .pre .0) (c .if1 .left), refl, rw (e, add-zero))
 
 add-t16 : tie.Need-add-t16 Inv-loop μ-loop
 add-t16 c = search needs
@@ -110,7 +110,7 @@ loop-again c =
     let t = c .before .before .before .before .read-values .ensures in
     let z = c .before .before .if2 .left in (
       omega arith,
-      told-upto t (l .inv .1) z,
+      told-upto _ _ _ t (l .inv .1) z,
       l .inv .2,
       l .inv .3 ∙ block-more (s .args .steps) (5 + s .args .inputs) (l .i) (l .c) (s .args .s .now) (l .next) t (line-is i) (omega arith) z ∙ rw (c .step-of .ensures),
     )

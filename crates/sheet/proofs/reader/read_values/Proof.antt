@@ -1,16 +1,18 @@
 -- `read_values` tests the layout, then the meaning.
 use borrow.Author.Needs.{needs}
 use mathlib.Core.Path.{_≡_, _∙_}
-use Rattle.sheet.specs.Lines.{width}
-use Rattle.sheet.specs.Reading.{fieldsAt}
+use Rattle.sheet.specs.LineRead.{valuesTold, toldOf}
 use Rattle.sheet.proofs.LineRead.{width-small}
-use Rattle.sheet.proofs.LineTold.{values-told, no-values-told}
+use Rattle.sheet.proofs.LineTold.{values-told}
 use Rattle.sheet.proofs.reader.read_values.Statement.{statement}
 use Rattle.sheet.proofs.reader.read_values.Tie as tie
 
 -- what `fields_at` read is the line at the position
-fields-are : (c : tie.After-fields-at) → c .fields-at .result ≡ fieldsAt (c .before .before .before .args .s .now) (c .before .before .before .args .at) (width (c .before .before .before .args .l))
-fields-are c = c .fields-at .ensures ∙ rw (c .before .width .ensures)
+fields-told : (c : tie.After-fields-at)
+    → valuesTold (c .before .before .before .args .l) (c .fields-at .result) ≡ toldOf (c .before .before .before .args .s .now) (c .before .before .before .args .at) (c .before .before .before .args .l)
+fields-told c =
+    let s = c .before .before .before in
+    rw (c .fields-at .ensures, c .before .width .ensures) (values-told (s .args .s .now) (s .args .at) (s .args .l) (s .pre .1))
 
 width-requires : tie.Need-width-requires
 width-requires c κs = search needs
@@ -27,17 +29,10 @@ broken-requires : tie.Need-broken-requires
 broken-requires c κs = search needs
 
 returns : tie.Need-returns
-returns c =
-    let s = c .before .before .before .before .before .before in
-    let f = c .before .before .before in
-    rw (c .fault .ensures)
-    (values-told (s .args .s .now) (s .args .at) (s .args .l) (f .fields-at .result) (fields-are f) (s .pre .1) (c .before .before .if1 .taken))
+returns c = rw (c .fault .ensures) (simp (c .before .before .if1 .taken) at (fields-told (c .before .before .before)))
 
 returns-2 : tie.Need-returns-2
-returns-2 c =
-    let s = c .before .before .before .before .before in
-    let f = c .before .before in
-    no-values-told (s .args .s .now) (s .args .at) (s .args .l) (c .broken .result) (c .broken .ensures) (f .fields-at .result) (fields-are f) (s .pre .1) (c .before .if1 .left)
+returns-2 c = c .broken .ensures ∙ (simp (c .before .if1 .left) at (fields-told (c .before .before)))
 
 pub read-values-spec : {M : Type 1} → statement M
 read-values-spec =
