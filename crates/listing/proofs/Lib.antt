@@ -2,3 +2,4 @@ pub mod HeldRows
 pub mod FirstSame
 pub mod TextLength
 pub mod TextCases
+pub mod Beginning

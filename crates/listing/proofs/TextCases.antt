@@ -1,5 +1,5 @@
 -- The text of a sheet, by how its reading and its evaluation ended, and what the call leaves.
-use mathlib.Core.Path.{_≡_, _∙_}
+use mathlib.Core.Path.{_≡_, sym, ap, _∙_}
 use mathlib.Core.List.{List}
 use Prim.Native.Nat.{ℕ, _≤_, _<_}
 use native.Mathlib.Nat.{zero-add}
@@ -7,6 +7,7 @@ use borrow.Author.Tests.{eq-eqb, ne-eqb, lt-ltb, le-ltb}
 use lib.IntN.{ℤ}
 use lib.ListN.{length}
 use Rattle.sheet.specs.declared.Schedule.{Schedule}
+use Rattle.sheet.specs.declared.WriteAnswer.{WriteAnswer}
 use Rattle.sheet.specs.Causes.{accepted, bytesTooShort}
 use Rattle.sheet.specs.Reading.{readOf}
 use Rattle.sheet.specs.Writing.{notWritten}
@@ -48,3 +49,11 @@ module _ (sheet : List ℕ) (table : List ℤ) (text : List ℕ) where
       let e = le-ltb (length text) textRoom h in
       let n = w .ends ∙ zero-add (length (textOf sheet table)) in
       record { answers = rw (e, n); leaves-table = rw e t; leaves-text = rw e (w .is) }
+
+  -- where there is room, the text stands at the start of the bytes
+  pub listed-wrote : {tableAfterwards : List ℤ} {textAfterwards : List ℕ} {a : WriteAnswer} → textRoom ≤ length text
+      → Listed sheet table tableAfterwards text textAfterwards a → Wrote text textAfterwards 0 (a .length) (textOf sheet table)
+  listed-wrote h l =
+      let e = le-ltb (length text) textRoom h in
+      let answers = rw e at (l .answers) in
+      record { ends = ap (λ (a : WriteAnswer). a .length) answers ∙ sym (zero-add (length (textOf sheet table))); is = rw e at (l .leaves-text) }
