@@ -84,7 +84,7 @@ def sheet_of(name) -> bytes:
 
 
 def compare(name):
-    """None where the program prints what 01 says, and else what is to be shown."""
+    """None where the program prints what the specification says, and else what is to be shown."""
     data = sheet_of(name)
     run = runner.from_pipe if name[1] % PIPED_ONE_IN == 0 else runner.from_file
     status, printed = run(data)

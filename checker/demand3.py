@@ -2,7 +2,7 @@
 
     python3 checker/demand3.py SEED COUNT      checks the accepted ones among so many sheets
 
-Document 01, "The words of demand 3"; the demand itself stands in the mission. `violations` checks
+The specification, demand 3 and "The words of demand 3" (manual, section 4). `violations` checks
 every clause on one accepted schedule, for one choice of inputs within their ends and one choice of
 noise symbols. spoilt.py holds ways to get row arithmetic wrong in which it must find violations.
 """

@@ -1,6 +1,6 @@
 """Evaluation into a lent table, and the calls that ask about rows of a table.
 
-Document 01, causes 6 to 9 of "Causes and what follows". A lent table is a Python list of numbers.
+The specification, causes 6 to 9 of "Causes and what follows" (manual, section 6). A lent table is a Python list of numbers.
 """
 
 from typing import NamedTuple

@@ -1,4 +1,4 @@
-"""What the program prints for the bytes of a sheet (document 01, "What the program prints").
+"""What the program prints for the bytes of a sheet ("What the program prints": manual, section 3).
 
     python3 checker/listing.py < SHEET
 """
@@ -75,7 +75,7 @@ def listing(data: bytes) -> bytes:
 
 
 def files() -> dict[str, bytes]:
-    """The files of the crate `ranges`, by their paths in it: 01's example."""
+    """The files of the crate `ranges`, by their paths in it: the specification's example."""
     return {"stdin": EXAMPLE_SHEET, "stdout": EXAMPLE_LISTING}
 
 

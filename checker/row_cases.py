@@ -1,4 +1,4 @@
-"""What the program `row_examples` must print: P1 to P13 of document 01, row by row.
+"""What the program `row_examples` must print: P1 to P13 (manual, section 5.11), row by row.
 
     python3 checker/row_cases.py crates/row_examples
 

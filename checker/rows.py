@@ -1,8 +1,8 @@
 """Row arithmetic in exact whole numbers.
 
-Document 01, "A row" and "What each row becomes". A row is a list of 52 numbers: place 0 is the
-centre, place i the linear coefficient of symbol i, and places 31 to 51 hold the pair coefficients
-in 01's order.
+The specification, "A row" and "What each row becomes" (manual, section 5). A row is a list of 52
+numbers: place 0 is the centre, place i the linear coefficient of symbol i, and places 31 to 51 hold
+the pair coefficients in their order.
 """
 
 UNIT = 4_096

@@ -1,6 +1,7 @@
 """Schedule sheets: reading, writing, and the tests of a schedule that is handed over.
 
-Document 01, "The sheet" and causes 1 to 5 and 8 of "Causes and what follows".
+The specification, "The sheet" and causes 1 to 5 and 8 of "Causes and what follows" (manual,
+sections 2 and 6).
 """
 
 import re

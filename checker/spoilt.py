@@ -2,7 +2,7 @@
 
 `spoilt(name)` is a context in which the module `rows` or `sheet` is wrong in the way named. In
 those of UNSOUND demand 3 fails, and demand3.py must find a sheet where it does. Those of
-OTHER_NUMBERS give other numbers than 01, those of OTHER_SHEETS read otherwise than 01: the
+OTHER_NUMBERS give other numbers than the specification, those of OTHER_SHEETS read otherwise: the
 generated sheets must tell them from the right ones, and the cases of sheet_cases.py the latter.
 Those of OTHER_CALLS are wrong in `evaluation`, and the calls of library_calls.py must tell them.
 """
@@ -156,7 +156,7 @@ def floor(dividend, divisor):
 
 
 def crossing(x, row, i, j):
-    """The products that 01 takes from a candidate's pair."""
+    """The products that are taken from a candidate's pair."""
     return row[i] * x[i] if i == j else row[i] * x[j] + row[j] * x[i]
 
 

@@ -1,4 +1,4 @@
-"""Tests of the checker itself: 01's examples, its listing, its traps, and demand 3.
+"""Tests of the checker itself: the specification's examples, its listing, its traps, and demand 3.
 
     python3 -m unittest discover checker
     python3 checker/test_checker.py           (prints `N passed, M failed` as its last line)
@@ -61,7 +61,7 @@ def numbers(centre, linear, pairs=()):
 
 
 class ProvedExamples(unittest.TestCase):
-    """P1 to P13, "Proved examples" of document 01, and its listing."""
+    """P1 to P13, "Proved examples" (manual, section 5.11), and the listing."""
 
     def test_p1_ends_0_1(self):
         row = rows.input_row(0, 1, 1)
@@ -120,7 +120,7 @@ class ProvedExamples(unittest.TestCase):
 
 
 class Traps(unittest.TestCase):
-    """"Traps for the builder": each one changes an example as 01 says it does."""
+    """"Traps for the builder": each one changes an example as the specification says it does."""
 
     def test_rounding_toward_zero(self):
         with spoilt.spoilt("a product rounded toward zero"):

@@ -1,4 +1,4 @@
-//! Document 01 written plainly in Rust, to be timed beside `bench_evaluate`: standard input has a line with a count N and then a
+//! The specification written plainly in Rust, to be timed beside `bench_evaluate`: standard input has a line with a count N and then a
 //! sheet; the sheet is read, evaluated N times into one table, and one line is printed: N, and the last row's low and high.
 mod rows;
 mod sheet;

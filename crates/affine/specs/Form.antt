@@ -1,4 +1,4 @@
--- Document 01, "A row": "The form's value is the centre plus each coefficient times its symbol, or times the product of its pair's two symbols,
+-- "A row" (manual, section 4.6): "The form's value is the centre plus each coefficient times its symbol, or times the product of its pair's two symbols,
 -- all worked in fractions and divided by 4096; it is not rounded." The values of the symbols are a function of the index, counted from 0.
 use Prim.Native.Nat.{ℕ}
 use lib.IntN.{pos}

@@ -1,4 +1,4 @@
--- The limits and units of document 01, "A row", each named once. The code's constants of the same names stand in src/limits.rt.
+-- The limits and units of "A row" (manual, section 5), each named once. The code's constants of the same names stand in src/limits.rt.
 use Prim.Native.Nat.{ℕ}
 
 -- "30 linear coefficients, for noise symbols 1 to 30"

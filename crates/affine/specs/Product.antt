@@ -1,4 +1,4 @@
--- Document 01, "What each row becomes": multiply.
+-- "What each row becomes": multiply (manual, section 5.7).
 use mathlib.Core.List.{List}
 use Prim.Native.Nat.{ℕ, _+_, _*_, _-_}
 use lib.Dec.{eqb}

@@ -1,4 +1,4 @@
--- Document 01, "What each row becomes": reciprocal, "after method 3 of source document 000 (section 5.3) with its error taken from x times
+-- "What each row becomes": reciprocal (manual, section 5.8), "after method 3 of source document 000 (section 5.3) with its error taken from x times
 -- candidate less 1, as in (19)".
 use mathlib.Core.Bool.{Bool, false}
 use mathlib.Core.List.{List}

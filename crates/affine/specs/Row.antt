@@ -1,4 +1,4 @@
--- Document 01, "A row": its numbers, its span, its range.
+-- "A row" (manual, sections 5.1 and 5.3): its numbers, its span, its range.
 use mathlib.Core.Bool.{Bool, true, false}
 use mathlib.Core.List.{List, [], _∷_, _++_}
 use Prim.Native.Nat.{ℕ, suc, _+_}

@@ -1,4 +1,4 @@
--- Document 01, "What each row becomes": inputs, constants, sums and differences, and the answer of an operation.
+-- "What each row becomes": inputs, constants, sums and differences (manual, sections 5.4 to 5.6), and the answer of an operation.
 use mathlib.Core.List.{map}
 use Prim.Native.Nat.{ℕ}
 use lib.IntN.{ℤ, pos, _+ℤ_, _-ℤ_}

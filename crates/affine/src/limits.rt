@@ -1,4 +1,4 @@
-// The limits and units of document 01; specs/Limits.antt states each of them.
+// The limits and units of a row (manual, section 5); specs/Limits.antt states each of them.
 pub const SYMBOLS: usize = 30;
 
 pub const PAIRED: usize = 6;

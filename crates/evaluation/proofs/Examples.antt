@@ -1,5 +1,5 @@
--- Document 01, "Proved examples" P1 to P13 and the listing of its example sheet, over the definitions that the contracts cite: cases as data, and
--- one test that the checker evaluates.
+-- "Proved examples" P1 to P13 (manual, section 5.11) and the listing of "What the program prints", over the definitions that the contracts cite: cases as
+-- data, and one test that the checker evaluates.
 use mathlib.Core.Path.{_≡_, refl}
 use mathlib.Core.List.{List, [], _∷_, _++_, map}
 use Prim.Native.Nat.{ℕ, zero, suc, _-_, _*_}

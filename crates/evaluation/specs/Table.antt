@@ -33,7 +33,7 @@ allNumbers (r ∷ rows) = numbers r ++ allNumbers rows
 unfoldable pub tableAfter : List Row → List ℤ → List ℤ
 tableAfter rows table = allNumbers rows ++ drop (rowWidth * length rows) table
 
--- ---- what the code reads: the first n rows of a table, each within the span limit (not of document 01)
+-- ---- what the code reads: the first n rows of a table, each within the span limit (not of the specification)
 unfoldable pub rowsIn : List ℤ → ℕ → List Row
 rowsIn table n = tabulate n (rowAt table)
 

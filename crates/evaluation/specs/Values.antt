@@ -1,4 +1,4 @@
--- Document 01, "What each row becomes" and "The words of demand 3": exact values, found values, and lying within ends, all in fractions.
+-- "What each row becomes" and "The words of demand 3" (manual, sections 4.1 and 4.6): exact values, found values, and lying within ends, all in fractions.
 use mathlib.Core.List.{List, [], _∷_, _++_}
 use Prim.Native.Nat.{ℕ, zero, suc, _-_}
 use lib.Dec.{eqb, ltb}

@@ -12,7 +12,7 @@ ghost use Rattle.sheet.proofs.Passed.{Passed};
 ghost use Rattle.evaluation.specs.Table.{rowWidth, tableAfter};
 ghost use Rattle.evaluation.specs.Work.{rowCount, worked};
 
-// Document 01's number of an answer.
+// The cause that an answer stands for (manual, section 6), or 0.
 fn status_number(s: Status) -> u64
     ensures { λ r. ⌜ r ≡ number s ⌝ }
 {

@@ -1,4 +1,4 @@
-// P1 to P13 of document 01 over `affine`, a line for each: the numbers of the row and its range, or the refusal. `checker/row_cases.py` says
+// P1 to P13 (manual, section 5.11) over `affine`, a line for each: the numbers of the row and its range, or the refusal. `checker/row_cases.py` says
 // which row owns which symbol, and makes the same lines.
 use affine::Answer;
 use affine::Row;

@@ -1,4 +1,5 @@
--- The definitions at work: document 01's sheet is read and written again, and small damaged sheets are refused by the number and place of 01. All computed.
+-- The definitions at work: the sheet of "What the program prints" is read and written again, and small damaged sheets are refused with their number and
+-- place (manual, section 6). All computed.
 use mathlib.Core.Path.{_≡_, refl}
 use mathlib.Core.Bool.{Bool, true, false}
 use mathlib.Core.List.{List, [], _∷_, _++_}
@@ -21,7 +22,7 @@ use Rattle.sheet.specs.declared.Line.the-variants.{CountNames, EndNames,
 step : ℕ → ℕ → ℕ → ℕ → Step
 step code first second value = record { code = pos code; first = pos first; second = pos second; value = pos value }
 
--- the sheet of document 01, (x + 1)² - 2x for x from -1/8 to 1/8
+-- the sheet of "What the program prints", (x + 1)² - 2x for x from -1/8 to 1/8
 sheet01 : Schedule
 sheet01 = record {
   inputs = pos 1;

@@ -1,4 +1,4 @@
--- Document 01's table "Causes and what follows": number and place of each cause that this library tells.
+-- The table of "Causes and what follows" (manual, section 6): number and place of each cause that this library tells.
 use Prim.Native.Nat.{ℕ}
 use Rattle.sheet.specs.declared.Refusal.{Refusal}
 

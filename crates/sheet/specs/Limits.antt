@@ -1,4 +1,4 @@
--- The limits of document 01, each named here and nowhere else in definitions and laws (src/lib.rt has them for the code).
+-- The limits of a sheet (manual, section 2), each named here and nowhere else in definitions and laws (src/lib.rt has them for the code).
 use Prim.Native.Nat.{ℕ}
 
 -- "inputs 1 to 6"

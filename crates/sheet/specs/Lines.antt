@@ -1,4 +1,4 @@
--- The lines of a schedule's sheet, one after another: what each holds, where it has its place, and its text (document 01, "The sheet").
+-- The lines of a schedule's sheet, one after another: what each holds, where it has its place, and its text ("The sheet": manual, section 2).
 use mathlib.Core.List.{List, [], _∷_}
 use Prim.Native.Nat.{ℕ, _+_, _-_}
 use lib.Dec.{leb, ltb, eqb}

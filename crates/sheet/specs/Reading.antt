@@ -1,4 +1,5 @@
--- Reading a sheet as document 01 orders it: "1; then text line by line, 2 before 3, 4 or 5 on a line". `proofs/RoundTrip.antt` shows what is accepted.
+-- Reading a sheet in the order of "Causes and what follows" (manual, section 6.3): "1; then text line by line, 2 before 3, 4 or 5 on a line".
+-- `proofs/RoundTrip.antt` shows what is accepted.
 use mathlib.Core.Bool.{Bool, true, false}
 use mathlib.Core.List.{List, [], _∷_}
 use Prim.Native.Nat.{ℕ, zero, suc, _+_}

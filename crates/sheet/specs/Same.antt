@@ -1,4 +1,4 @@
--- When two schedules are the same (document 01, "The sheet"), and a schedule with zeros beyond its counts.
+-- When two schedules are the same ("The sheet": manual, section 2.7), and a schedule with zeros beyond its counts.
 use mathlib.Core.Path.{_≡_}
 use mathlib.Core.List.{List, [], _∷_}
 use Prim.Native.Nat.{ℕ, zero, suc, _<_}

@@ -1,4 +1,4 @@
--- The tests 3, 4 and 5 of a line's numbers (document 01, "The sheet").
+-- The tests 3, 4 and 5 of a line's numbers ("The sheet": manual, sections 2.4 and 2.5).
 use mathlib.Core.Bool.{Bool, false}
 use mathlib.Core.List.{List}
 use Prim.Native.Nat.{ℕ}

@@ -1,4 +1,4 @@
--- The text of numbers and lines (document 01, "The sheet"), as the writer makes it and the reader wants it.
+-- The text of numbers and lines ("The sheet": manual, sections 2.2 and 2.3), as the writer makes it and the reader wants it.
 use mathlib.Core.List.{List, [], _∷_, _++_}
 use Prim.Native.Nat.{ℕ, zero, suc, _+_, _/_, _%_}
 use lib.Dec.{ltb}
