@@ -3,3 +3,4 @@ pub mod FirstSame
 pub mod TextLength
 pub mod TextCases
 pub mod Beginning
+pub mod Examples
