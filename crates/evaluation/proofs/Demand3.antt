@@ -30,7 +30,7 @@ use Rattle.sheet.specs.Causes.{accepted}
 use Rattle.sheet.specs.Limits.{lastCode}
 use Rattle.sheet.specs.Lines.{natural, stepAt}
 use Rattle.evaluation.specs.Table.{rowWidth, tableAfter, rowOfNumbers, rowAt, RowsWithin}
-use Rattle.evaluation.specs.Work.{rowCount, evaluated}
+use Rattle.evaluation.specs.Work.{rowCount}
 use Rattle.evaluation.specs.Asking.{rowRefusal, rowsRefusal, rangeTold, rangeRefused, rangeOf, compared, notCompared, sameOf}
 use Rattle.evaluation.specs.declared.RangeAnswer.{RangeAnswer}
 use Rattle.evaluation.specs.declared.SameAnswer.{SameAnswer}

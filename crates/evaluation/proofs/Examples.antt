@@ -1,8 +1,8 @@
--- "Proved examples" P1 to P13 (manual, section 5.11) and the listing of "What the program prints", over the definitions that the contracts cite: cases as
--- data, and one test that the checker evaluates.
+-- "Proved examples" P1 to P13 (manual, section 5.11), over the definitions that the contracts cite: cases as data, and one test that the checker
+-- evaluates.
 use mathlib.Core.Path.{_≡_, refl}
 use mathlib.Core.List.{List, [], _∷_, _++_, map}
-use Prim.Native.Nat.{ℕ, zero, suc, _-_, _*_}
+use Prim.Native.Nat.{ℕ, _-_, _*_}
 use lib.IntN.{ℤ, pos, negℤ}
 use lib.Dec.{eqb}
 use lib.ListN.{length, replicate}
@@ -10,21 +10,18 @@ use Rattle.integer.specs.Floor.{floorQuotient, floorRemainder}
 use Rattle.affine.specs.declared.Row.{Row}
 use Rattle.affine.specs.Lists.{pick, at, tabulate, sum}
 use Rattle.affine.specs.PairOrder.{overPairs, firsts, seconds}
-use Rattle.affine.specs.Row.{span, low, high, agree, pairBelow, pairAbove, pairsBelow, pairsAbove}
+use Rattle.affine.specs.Row.{span, low, high, pairBelow, pairAbove, pairsBelow, pairsAbove}
 use Rattle.affine.specs.Product.{linearTotals, pairTotals, radius, squaredRadius, dropped, productOwn, productRow}
 use Rattle.affine.specs.Reciprocal.{candidateLinear, candidatePair, errorBound, reciprocalOwn, reciprocalRow}
 use Rattle.sheet.specs.declared.Schedule.{Schedule}
 use Rattle.sheet.specs.declared.Step.{Step}
 use Rattle.sheet.specs.declared.End.{End}
-use Rattle.sheet.specs.Lines.{zeroEnd, zeroStep, zeroSchedule, lineOf, numbers, store}
+use Rattle.sheet.specs.Lines.{zeroEnd, zeroStep, lineOf, numbers}
 use Rattle.sheet.specs.Tests.{countsPass, endsPass, stepPasses, fault}
 use Rattle.sheet.specs.Limits.{maxInputs, maxSteps}
-use Rattle.sheet.specs.Number.{run, judged, afterSign, fieldAt}
-use Rattle.sheet.specs.Reading.{readOf, readSheet, readLines, readAs, starts, fieldsFrom, fieldsAt}
 use Rattle.sheet.specs.Writing.{faultAt, testLines, testOf}
-use Rattle.evaluation.specs.Table.{rowWidth, allNumbers, tableAfter}
+use Rattle.evaluation.specs.Table.{rowWidth}
 use Rattle.evaluation.specs.Work.{Worked, rowCount, binaryAnswer, stepAnswer, rowAnswer, withAnswer, worked, evaluated}
-use Rattle.evaluation.specs.Asking.{rowRefusal, rowsRefusal, rangeOf, sameOf, partOf}
 use Rattle.evaluation.specs.Values.{rowOf, ownOf}
 
 abbrev minus : ℕ → ℤ

@@ -1,5 +1,5 @@
 -- The first bytes of an input say all: one more than a sheet may have is enough to tell what is printed.
-use mathlib.Core.Path.{_≡_, refl, ap, ap₂, sym, _∙_}
+use mathlib.Core.Path.{_≡_, ap, sym, _∙_}
 use mathlib.Core.Logic.{_⊎_, inl, inr}
 use mathlib.Core.List.{List}
 use Prim.Native.Nat.{ℕ, _≤_, _<_}
@@ -8,7 +8,6 @@ use borrow.Author.Tests.{lt-ltb}
 use lib.IntN.{ℤ}
 use lib.ListN.{length, take}
 use lib.Seq.{length-take-le, take-all}
-use Rattle.sheet.specs.declared.ReadAnswer.{ReadAnswer}
 use Rattle.sheet.specs.Limits.{maxBytes}
 use Rattle.sheet.specs.Causes.{sheetTooLong}
 use Rattle.sheet.specs.Reading.{partRefused, answer, readOf}

@@ -1,3 +1,4 @@
 pub mod Listing
 pub mod Held
 pub mod Listed
+pub mod Legible

@@ -1,6 +1,5 @@
 -- `list` meets its contract: too few bytes, a sheet refused in reading, or the schedule that was read.
-use mathlib.Core.Path.{_≡_, refl, sym, ap, _∙_}
-use Rattle.sheet.specs.declared.Refusal.{Refusal}
+use mathlib.Core.Path.{_≡_, sym, ap, _∙_}
 use Rattle.sheet.specs.declared.ReadAnswer.{ReadAnswer}
 use Rattle.sheet.specs.Reading.{readOf}
 use Rattle.listing.proofs.TextCases.{sheet-read, sheet-refused, listed-short, listed-written}

@@ -1,9 +1,9 @@
 -- `list_schedule` meets its contract: the refusal of the evaluation, or the listing of the table that it left.
-use mathlib.Core.Path.{_≡_, sym, ap, _∙_, subst}
+use mathlib.Core.Path.{_≡_, sym, ap, _∙_}
 use Rattle.sheet.specs.declared.Refusal.{Refusal}
 use Rattle.evaluation.specs.Work.{rowCount, evaluated}
 use Rattle.evaluation.proofs.AcceptedEvaluation.{rows-left-few, rows-left-within}
-use Rattle.listing.specs.Listing.{refusalText, tableLeft, listing, scheduleText}
+use Rattle.listing.specs.Listing.{tableLeft, listing}
 use Rattle.listing.specs.Held.{RowsHeld}
 use Rattle.listing.proofs.TextCases.{schedule-listed, schedule-refused}
 use borrow.Author.Needs.{needs}

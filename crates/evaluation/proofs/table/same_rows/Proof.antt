@@ -1,5 +1,5 @@
 -- `table::same_rows` meets its contract: the parts agree as the rows do.
-use mathlib.Core.Path.{_≡_, sym, ap, ap₂, _∙_}
+use mathlib.Core.Path.{sym, ap, ap₂, _∙_}
 use Prim.Native.Nat.{_*_}
 use lib.ListN.{length}
 use Rattle.affine.specs.Row.{agree}

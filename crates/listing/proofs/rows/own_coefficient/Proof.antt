@@ -1,5 +1,5 @@
 -- `rows::own_coefficient` meets its contract: the part of the row has the number at that place.
-use mathlib.Core.Path.{_≡_, sym, ap, _∙_}
+use mathlib.Core.Path.{sym, ap, _∙_}
 use Prim.Native.Nat.{_-_, _*_}
 use native.Mathlib.Omega.{arith}
 use lib.ListN.{length}

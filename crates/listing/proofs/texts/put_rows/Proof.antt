@@ -1,16 +1,13 @@
 -- `texts::put_rows` writes line after line: the lines of the first rows stand where they begin.
 use mathlib.Core.Path.{_≡_, refl, ap, _∙_}
-use mathlib.Core.List.{List}
-use Prim.Native.Nat.{ℕ, _+_, _-_, _≤_}
+use Prim.Native.Nat.{_+_, _-_, _≤_}
 use native.Mathlib.Omega.{arith}
-use lib.IntN.{ℤ}
 use lib.ListN.{length}
 use Rattle.sheet.specs.Text.{line, texts}
 use Rattle.sheet.specs.Wrote.{Wrote}
 use Rattle.sheet.proofs.Texts.{texts-more, texts-room}
 use Rattle.sheet.proofs.Written.{wrote-none, wrote-then}
 use Rattle.listing.specs.Listing.{rowText}
-use Rattle.listing.specs.Held.{RowHeld}
 use borrow.Author.Needs.{needs}
 use Rattle.listing.proofs.texts.put_rows.Statement.{statement}
 use Rattle.listing.proofs.texts.put_rows.Tie as tie
