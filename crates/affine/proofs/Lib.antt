@@ -29,4 +29,3 @@ pub mod Support
 pub mod StepLaws
 pub mod WellFormed
 pub mod Sameness
-pub mod Examples
