@@ -115,7 +115,7 @@ class ProvedExamples(unittest.TestCase):
         self.assertEqual(of_two_constants(4, 268_435_456, 16_384), numbers(2**30, {}))
         self.assertEqual(of_two_constants(4, 268_435_456, 16_385), (6, 4))
 
-    def test_the_listing_of_01(self):
+    def test_the_listing_of_the_specification(self):
         self.assertEqual(listing.listing(listing.EXAMPLE_SHEET), listing.EXAMPLE_LISTING)
 
 

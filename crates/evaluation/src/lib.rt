@@ -1,4 +1,4 @@
-// Evaluation of a schedule into a lent table, and what is asked about its rows (document 01, "Causes and what follows").
+// Evaluation of a schedule into a lent table, and what is asked about its rows (manual, sections 6 and 7).
 mod asking; // asking.rt: refusals 9, 8 and 6 of a row asked for
 mod steps; // steps.rt: the row of a line of the sheet, from the rows before it
 pub mod table; // table.rt: rows read from a table of numbers, put into it and compared there

@@ -23,8 +23,8 @@ step : ℕ → ℕ → ℕ → ℕ → Step
 step code first second value = record { code = pos code; first = pos first; second = pos second; value = pos value }
 
 -- the sheet of "What the program prints", (x + 1)² - 2x for x from -1/8 to 1/8
-sheet01 : Schedule
-sheet01 = record {
+exampleSheet : Schedule
+exampleSheet = record {
   inputs = pos 1;
   squares = pos 1;
   steps = pos 6;
@@ -33,17 +33,17 @@ sheet01 = record {
 }
 
 -- its third line is `low high`, its fourth `-512 512`, its last `3 4 6 0`
-fourth-line : textAt sheet01 4 ≡ 45 ∷ 53 ∷ 49 ∷ 50 ∷ 32 ∷ 53 ∷ 49 ∷ 50 ∷ 10 ∷ []
-unfolding sheet01 textAt lineOf lineText numbers line numeral decimal
+fourth-line : textAt exampleSheet 4 ≡ 45 ∷ 53 ∷ 49 ∷ 50 ∷ 32 ∷ 53 ∷ 49 ∷ 50 ∷ 10 ∷ []
+unfolding exampleSheet textAt lineOf lineText numbers line numeral decimal
 fourth-line = refl
 
-last-line : textAt sheet01 11 ≡ 51 ∷ 32 ∷ 52 ∷ 32 ∷ 54 ∷ 32 ∷ 48 ∷ 10 ∷ []
-unfolding sheet01 step textAt lineOf lineText numbers line numeral decimal
+last-line : textAt exampleSheet 11 ≡ 51 ∷ 32 ∷ 52 ∷ 32 ∷ 54 ∷ 32 ∷ 48 ∷ 10 ∷ []
+unfolding exampleSheet step textAt lineOf lineText numbers line numeral decimal
 last-line = refl
 
-read-01 : readOf (sheetText sheet01) ≡ record { refusal = accepted; schedule = sheet01 }
-unfolding sheet01 step sheetText texts textAt lineOf lineText numbers line numeral decimal readOf readSheet readLines readAs fieldsAt fieldsFrom fieldAt afterSign judged run starts fault countsPass endsPass stepPasses store zeroSchedule
-read-01 = refl
+read-example : readOf (sheetText exampleSheet) ≡ record { refusal = accepted; schedule = exampleSheet }
+unfolding exampleSheet step sheetText texts textAt lineOf lineText numbers line numeral decimal readOf readSheet readLines readAs fieldsAt fieldsFrom fieldAt afterSign judged run starts fault countsPass endsPass stepPasses store zeroSchedule
+read-example = refl
 
 -- a sheet of one input and one step, from the bytes of its three lines of numbers
 sheetWith : List ℕ → List ℕ → List ℕ → List ℕ

@@ -1,4 +1,4 @@
-// Schedule sheets (document 01, "The sheet"): reading, writing, and the tests 3, 4 and 5 of a schedule that is handed over.
+// Schedule sheets (manual, section 2): reading, writing, and the tests 3, 4 and 5 of a schedule that is handed over.
 ghost use mathlib.Core.Path.{_≡_};
 ghost use Rattle.sheet.specs.Reading.{readOf};
 ghost use Rattle.sheet.specs.Writing.{testOf, Written};
@@ -20,7 +20,7 @@ pub use fields::put_fields;
 pub use number::put_count;
 pub use number::put_number;
 
-// Limits of document 01; specs/Limits.antt has the same names for definitions and laws.
+// The limits of a sheet (manual, section 2.4); specs/Limits.antt has the same names for definitions and laws.
 pub const MAX_INPUTS: usize = 6;
 
 pub const MAX_STEPS: usize = 24;
@@ -56,7 +56,7 @@ pub struct Schedule {
     pub step: [Step; MAX_STEPS],
 }
 
-// Number and place of a refusal in document 01's table of causes; both 0 for an accepted call.
+// Number and place of a refusal (manual, section 6); both 0 for an accepted call.
 pub struct Refusal {
     pub number: u64,
     pub place: usize,
@@ -68,7 +68,7 @@ pub struct ReadAnswer {
     pub schedule: Schedule,
 }
 
-// What writing answers: the sheet's length, 0 beside a refusal.
+// What a call that writes into lent bytes answers: the length of what it wrote, 0 beside a refusal.
 pub struct WriteAnswer {
     pub refusal: Refusal,
     pub length: usize,

@@ -38,7 +38,7 @@ returns c =
     (r .row-refusal .ensures) (b .if1 .taken)
 
 sub-row-part : tie.Need-sub-row-part
-sub-row-part c = asked c .holds .from-one
+sub-row-part c = let a = asked c in omega arith
 
 row-part-requires : tie.Need-row-part-requires
 row-part-requires c κs = let a = asked c in omega arith
