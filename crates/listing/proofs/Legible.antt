@@ -2,7 +2,7 @@
 use mathlib.Core.Path.{_≡_, subst}
 use mathlib.Core.Logic.{_⊎_, inl, inr}
 use mathlib.Core.List.{List}
-use Prim.Native.Nat.{ℕ, zero, suc, _+_, _-_, _≤_}
+use Prim.Native.Nat.{ℕ, zero, suc, _-_, _≤_}
 use native.Mathlib.Omega.{arith}
 use lib.IntN.{ℤ, natAbs}
 use Rattle.integer.specs.Sum.{sumAbs}
@@ -18,7 +18,7 @@ use Rattle.evaluation.proofs.AcceptedEvaluation.{rows-left-few, rows-left-withi
 use Rattle.evaluation.proofs.RowParts.{numbers-rowAt}
 use Rattle.listing.specs.Listing.{own, rowNumbers}
 use Rattle.listing.specs.Held.{RowHeld}
-use Rattle.listing.specs.Legible.{ReadsBack, Legible}
+use Rattle.listing.specs.Claims.{ReadsBack, Legible}
 use Rattle.listing.proofs.HeldRows.{row-room, row-within, row-range, row-own}
 use Rattle.listing.proofs.FirstSame.{first-small}
 

@@ -1,7 +1,7 @@
 pub mod HeldRows
 pub mod FirstSame
-pub mod TextLength
+pub mod TextFits
 pub mod TextCases
-pub mod Beginning
+pub mod BeginningTells
 pub mod Legible
 pub mod Examples

@@ -1,4 +1,4 @@
 pub mod Listing
 pub mod Held
 pub mod Listed
-pub mod Legible
+pub mod Claims

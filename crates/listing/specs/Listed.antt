@@ -12,7 +12,7 @@ use Rattle.sheet.specs.Causes.{accepted, bytesTooShort}
 use Rattle.sheet.specs.Writing.{notWritten}
 use Rattle.listing.specs.Listing.{textOf, tableOf}
 
--- As many bytes as every text fits into (`proofs/TextLength.antt`): fewer are "lent bytes too short".
+-- As many bytes as every text fits into (`Claims.antt`): fewer are "lent bytes too short".
 abbrev pub textRoom : ℕ
 textRoom = 4096
 

@@ -9,9 +9,9 @@ use lib.Seq.{length-take-le}
 use Rattle.sheet.specs.Limits.{maxBytes}
 use Rattle.listing.specs.Listing.{tableNumbers, textOf, printed}
 use Rattle.listing.specs.Listed.{textRoom}
-use Rattle.listing.proofs.Beginning.{text-of-beginning}
+use Rattle.listing.proofs.BeginningTells.{beginning-tells}
 use Rattle.listing.proofs.TextCases.{listed-wrote}
-use Rattle.listing.proofs.TextLength.{text-fits}
+use Rattle.listing.proofs.TextFits.{text-fits}
 use borrow.Author.Needs.{needs}
 use Rattle.ranges.proofs.list.Statement.{statement}
 use Rattle.ranges.proofs.list.Tie as tie
@@ -39,7 +39,7 @@ returns c =
       prints =
           λ input e.
           let q : textOf read table ≡ printed input =
-          ap (λ (l : List ℕ). textOf l table) (sym e) ∙ text-of-beginning (length (s .args .sheet .now)) (omega arith) input table in
+          ap (λ (l : List ℕ). textOf l table) (sym e) ∙ beginning-tells (length (s .args .sheet .now)) (omega arith) input table in
           rw (sym q) w;
     }
 

@@ -2,7 +2,7 @@
 use native.Mathlib.Omega.{arith}
 use Rattle.sheet.proofs.Written.{wrote-then}
 use Rattle.listing.specs.Listing.{listing}
-use Rattle.listing.proofs.TextLength.{rows-short}
+use Rattle.listing.proofs.TextFits.{rows-short}
 use borrow.Author.Needs.{needs}
 use Rattle.listing.proofs.texts.put_listing.Statement.{statement}
 use Rattle.listing.proofs.texts.put_listing.Tie as tie

@@ -1,18 +1,28 @@
--- What is printed can be read: every number of a listing is the number that the reader of a sheet finds there. `proofs/Legible.antt` proves it of every
--- accepted evaluation.
+-- What is claimed of every text: it has room, its numbers can be read, and the first bytes of an input tell it. Each is proved in the file of
+-- `proofs/` of its name.
 use mathlib.Core.Path.{_≡_}
 use mathlib.Core.Logic.{_⊎_}
 use mathlib.Core.List.{List, _∷_, _++_}
-use Prim.Native.Nat.{ℕ, _+_, _≤_}
+use Prim.Native.Nat.{ℕ, _+_, _≤_, _<_}
 use lib.IntN.{ℤ}
-use lib.ListN.{length, drop}
+use lib.ListN.{length, take, drop}
 use Rattle.affine.specs.Lists.{at}
 use Rattle.sheet.specs.declared.Schedule.{Schedule}
 use Rattle.sheet.specs.declared.number.Field.the-variants.{Number}
+use Rattle.sheet.specs.Limits.{maxBytes}
 use Rattle.sheet.specs.Number.{fieldAt}
 use Rattle.sheet.specs.Text.{numeral}
 use Rattle.evaluation.specs.Work.{rowCount, evaluated}
-use Rattle.listing.specs.Listing.{tableLeft, rowNumbers}
+use Rattle.listing.specs.Listing.{tableLeft, rowNumbers, textOf}
+use Rattle.listing.specs.Listed.{textRoom}
+
+-- No text is longer than the bytes that are asked for, whatever the sheet's bytes and the table.
+abbrev pub TextFits : Type 0
+TextFits = (sheet : List ℕ) (table : List ℤ) → length (textOf sheet table) ≤ textRoom
+
+-- Of an input, one byte more than a sheet may have tells all: what lies behind changes nothing.
+abbrev pub BeginningTells : Type 0
+BeginningTells = (k : ℕ) → maxBytes < k → (input : List ℕ) (table : List ℤ) → textOf (take k input) table ≡ textOf input table
 
 -- Wherever the numeral of a number stands before a space or byte 10, that number is read.
 abbrev pub ReadsBack : ℤ → Type 0

@@ -18,6 +18,7 @@ use Rattle.evaluation.specs.Work.{rowCount, evaluated}
 use Rattle.evaluation.proofs.AcceptedEvaluation.{rows-left-few}
 use Rattle.listing.specs.Listing.{rowNumbers, rowText, columnNames, listing, refusalNames, refusalText, tableLeft, scheduleText, textOf}
 use Rattle.listing.specs.Listed.{textRoom}
+use Rattle.listing.specs.Claims.{TextFits}
 
 row-short : (table : List ℤ) (count row : ℕ) → length (rowText table count row) ≤ 60
 unfolding rowText
@@ -43,8 +44,8 @@ schedule-fits c table =
     (λ e. listing-fits (tableLeft c table) (rowCount c) (rows-left-few c table (eqb-true _ _ e)))
     (λ e. refusal-fits (evaluated c table .refusal))
 
--- whatever the sheet's bytes and the table
-pub text-fits : (sheet : List ℕ) (table : List ℤ) → length (textOf sheet table) ≤ textRoom
+-- TEXT FITS: whatever the sheet's bytes and the table.
+pub text-fits : TextFits
 unfolding textOf
 text-fits sheet table =
     pick-elim (λ (t : List ℕ). length t ≤ textRoom) (eqb (readOf sheet .refusal .number) 0) _ _
