@@ -1,22 +1,27 @@
 -- What an accepted evaluation shows: its schedule passed, the table has room, every row was worked, and the table holds them.
 use mathlib.Core.Path.{_≡_, sym, ap, _∙_}
 use mathlib.Core.Logic.{_⊎_, inl, inr}
-use mathlib.Core.List.{List}
+use mathlib.Core.List.{List, _++_}
 use Prim.Native.Nat.{ℕ, _*_, _≤_, _<_}
 use native.Mathlib.Omega.{arith}
 use native.Mathlib.Decide.{ℕ-discrete}
-use lib.IntN.{ℤ}
-use lib.ListN.{length}
+use lib.IntN.{ℤ, pos}
+use lib.ListN.{length, getD, drop}
 use Rattle.affine.specs.Limits.{symbols}
+use Rattle.affine.specs.Row.{numbers}
+use Rattle.affine.specs.Steps.{constantRow}
 use Rattle.sheet.specs.declared.Schedule.{Schedule}
 use Rattle.sheet.specs.Writing.{testOf}
 use Rattle.sheet.proofs.Passed.{Passed, passed}
-use Rattle.evaluation.specs.Table.{rowWidth, tableAfter, RowsWithin}
+use Rattle.evaluation.specs.Table.{rowWidth, rowPart, allNumbers, tableAfter, RowsWithin}
 use Rattle.evaluation.specs.Work.{rowCount, evaluated}
 use Rattle.evaluation.proofs.EvaluationEnds.{ends-tested, ends-short, ends-worked}
 use Rattle.evaluation.proofs.Induction.{lt-or-ge}
 use Rattle.evaluation.proofs.Made.{rows-few}
-use Rattle.evaluation.proofs.WorkLaws.{rowsUpTo, Went, went}
+use Rattle.evaluation.proofs.Sequence.{length-grown, getD-grown}
+use Rattle.evaluation.proofs.SoundRows.{row-sound}
+use Rattle.evaluation.proofs.TableLaws.{length-numbers, rowPart-numbers}
+use Rattle.evaluation.proofs.WorkLaws.{nextRow, rowsUpTo, Went, went}
 use Rattle.evaluation.proofs.WorkedTable.{rows-within}
 
 -- an accepted evaluation passed 3, 4 and 5, had room, and worked all its rows
@@ -47,3 +52,17 @@ rows-left-within c table e =
     rows-within
     (record { none-refused = ap (λ r. r .number) (a .goes .refusal); left = ap (λ rows. tableAfter rows table) (a .rows ∙ sym (a .goes .rows)) })
     (a .room)
+
+-- the part of each row is what the work made of it, whatever the table held before
+pub part-left : (c : Schedule) (table : List ℤ) → evaluated c table .refusal .number ≡ 0 → (i : ℕ) → i < rowCount c
+    → rowPart (tableAfter (evaluated c table .rows) table) i ≡ numbers (nextRow c (rowsUpTo c i))
+unfolding tableAfter
+part-left c table e i h =
+    let n = rowCount c in
+    let rows = rowsUpTo c n in
+    let made : (j : ℕ) → j < n → getD rows j (constantRow (pos 0)) ≡ nextRow c (rowsUpTo c j) = λ j l. getD-grown (nextRow c) n (constantRow (pos 0)) j l in
+    let long : length rows ≡ n = length-grown (nextRow c) n in
+    ap (λ l. rowPart (allNumbers l ++ drop (rowWidth * length l) table) i) (accepted-evaluation c table e .rows)
+    ∙ rowPart-numbers rows (drop (rowWidth * length rows) table) i (constantRow (pos 0)) (omega arith)
+    (λ j l. ap (λ r. length (numbers r)) (made j (omega arith)) ∙ length-numbers (nextRow c (rowsUpTo c j)) (row-sound c (rowsUpTo c j) .shaped))
+    ∙ ap numbers (made i h)

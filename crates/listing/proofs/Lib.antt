@@ -3,5 +3,7 @@ pub mod FirstSame
 pub mod TextFits
 pub mod TextCases
 pub mod BeginningTells
+pub mod SameParts
+pub mod AnyTable
 pub mod Legible
 pub mod Examples

@@ -1,5 +1,5 @@
--- What is claimed of every text: it has room, its numbers can be read, and the first bytes of an input tell it. Each is proved in the file of
--- `proofs/` of its name.
+-- What is claimed of every text: it has room, the first bytes of an input tell it, what the table held before does not matter, and its numbers can
+-- be read. Each is proved in the file of `proofs/` of its name.
 use mathlib.Core.Path.{_≡_}
 use mathlib.Core.Logic.{_⊎_}
 use mathlib.Core.List.{List, _∷_, _++_}
@@ -13,7 +13,7 @@ use Rattle.sheet.specs.Limits.{maxBytes}
 use Rattle.sheet.specs.Number.{fieldAt}
 use Rattle.sheet.specs.Text.{numeral}
 use Rattle.evaluation.specs.Work.{rowCount, evaluated}
-use Rattle.listing.specs.Listing.{tableLeft, rowNumbers, textOf}
+use Rattle.listing.specs.Listing.{tableLeft, rowNumbers, textOf, tableNumbers, printed}
 use Rattle.listing.specs.Listed.{textRoom}
 
 -- No text is longer than the bytes that are asked for, whatever the sheet's bytes and the table.
@@ -23,6 +23,10 @@ TextFits = (sheet : List ℕ) (table : List ℤ) → length (textOf sheet table)
 -- Of an input, one byte more than a sheet may have tells all: what lies behind changes nothing.
 abbrev pub BeginningTells : Type 0
 BeginningTells = (k : ℕ) → maxBytes < k → (input : List ℕ) (table : List ℤ) → textOf (take k input) table ≡ textOf input table
+
+-- With a table that holds every row, the text is the one that is printed, whatever the table held before.
+abbrev pub AnyTable : Type 0
+AnyTable = (sheet : List ℕ) (table : List ℤ) → tableNumbers ≤ length table → textOf sheet table ≡ printed sheet
 
 -- Wherever the numeral of a number stands before a space or byte 10, that number is read.
 abbrev pub ReadsBack : ℤ → Type 0

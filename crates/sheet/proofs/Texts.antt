@@ -1,5 +1,5 @@
--- Texts one behind the other: one more, the length of fewer, and the room that each has where all have theirs.
-use mathlib.Core.Path.{_≡_, ap, _∙_}
+-- Texts one behind the other: one more, the length of fewer, the room that each has where all have theirs, and their equality one by one.
+use mathlib.Core.Path.{_≡_, refl, ap, ap₂, _∙_}
 use mathlib.Core.List.{List, _++_, append-assoc, append-nil}
 use Prim.Native.Nat.{ℕ, zero, suc, _+_, _*_, _≤_, _<_}
 use native.Mathlib.Nat.{add-zero, add-suc, suc-add}
@@ -34,3 +34,9 @@ module _ (f : ℕ → List ℕ) where
   unfolding texts
   texts-width w h zero n = omega arith
   texts-width w h (suc k) n = rw (length-append (f n) (texts k (suc n) f)) (omega (arith, h n, texts-width w h k (suc n)))
+
+-- texts that agree one by one agree all together
+pub texts-cong : {f g : ℕ → List ℕ} (k n : ℕ) → ((i : ℕ) → n ≤ i → i < n + k → f i ≡ g i) → texts k n f ≡ texts k n g
+unfolding texts
+texts-cong zero n h = refl
+texts-cong (suc k) n h = ap₂ (λ a b. a ++ b) (h n (omega arith) (omega arith)) (texts-cong k (suc n) (λ i l m. h i (omega arith) (omega arith)))
