@@ -14,7 +14,7 @@ use Rattle.sheet.specs.Number.{run, judged, afterSign, fieldAt}
 use Rattle.sheet.specs.Lines.{zeroSchedule, zeroEnd, zeroStep, lineOf, lineText, names, numbers, store}
 use Rattle.sheet.specs.Tests.{countsPass, endsPass, stepPasses, fault}
 use Rattle.sheet.specs.Reading.{fieldsFrom, fieldsAt, starts, readAs, readLines, readSheet, readOf}
-use Rattle.sheet.specs.Writing.{textAt, linesText, sheetText}
+use Rattle.sheet.specs.Writing.{textAt, sheetText}
 use Rattle.sheet.specs.declared.Schedule.{Schedule}
 use Rattle.sheet.specs.declared.Step.{Step}
 use Rattle.sheet.specs.declared.Line.the-variants.{CountNames, EndNames, StepNames}
