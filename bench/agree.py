@@ -1,6 +1,8 @@
-"""Runs both programs over the checker's sheets and compares their line with the checker's: a time counts only beside right numbers.
+"""Runs all four programs over sheets and compares what they print with the checker: a time counts only beside right numbers.
 
-    python3 bench/agree.py BENCH_EVALUATE PLAIN_EVALUATE [COUNT]
+    python3 bench/agree.py BENCH_EVALUATE PLAIN_EVALUATE RANGES PLAIN_LISTING [COUNT]
+
+The sheets are those of `bench/sheets` and `examples`, no bytes at all, and COUNT of each of two seeds, one of them fresh.
 """
 
 import pathlib
@@ -8,14 +10,15 @@ import secrets
 import subprocess
 import sys
 
-sys.path.insert(0, str(pathlib.Path(__file__).resolve().parent.parent / "checker"))
+ROOT = pathlib.Path(__file__).resolve().parent.parent
+sys.path.insert(0, str(ROOT / "checker"))
 
 import generate
 import listing
 
 
-def expected(data: bytes) -> bytes:
-    """N, and low and high of the last row of the listing, or the refusal."""
+def expected_line(data: bytes) -> bytes:
+    """What a program that evaluates once prints: N, and low and high of the last row of the listing, or the refusal."""
     last = listing.listing(data).splitlines()
     if last[0] == b"refused place":
         return b"refused " + last[1] + b"\n"
@@ -23,20 +26,33 @@ def expected(data: bytes) -> bytes:
     return b"1 " + low + b" " + high + b"\n"
 
 
-def main() -> int:
-    programs = sys.argv[1:3]
-    count = int(sys.argv[3]) if len(sys.argv) > 3 else 300
-    failed = 0
-    seeds = ("bench", secrets.token_hex(4))
-    for seed in seeds:
+def sheets(count: int):
+    """Each sheet and its name."""
+    for path in [*sorted((ROOT / "bench/sheets").iterdir()), *sorted((ROOT / "examples").glob("*.sheet"))]:
+        yield path.name, path.read_bytes()
+    yield "no bytes", b""
+    for seed in ("bench", secrets.token_hex(4)):
         for index in range(count):
-            data = generate.sheet_bytes(seed, index)
-            for program in programs:
-                run = subprocess.run([program], input=b"1\n" + data, capture_output=True)
-                if run.returncode != 0 or run.stdout != expected(data):
-                    failed += 1
-                    print(f"mismatch: {program} seed {seed} index {index}: {run.stdout!r}, expected {expected(data)!r}")
-    print(f"{2 * count * len(programs) - failed} passed, {failed} failed")
+            yield f"seed {seed} index {index}", generate.sheet_bytes(seed, index)
+
+
+def agrees(program: str, name: str, given: bytes, expected: bytes) -> bool:
+    run = subprocess.run([program], input=given, capture_output=True)
+    if run.returncode == 0 and run.stdout == expected:
+        return True
+    print(f"mismatch: {program} {name}: {run.stdout!r}, expected {expected!r}")
+    return False
+
+
+def main() -> int:
+    evaluating, listing_programs = sys.argv[1:3], sys.argv[3:5]
+    count = int(sys.argv[5]) if len(sys.argv) > 5 else 300
+    outcomes = []
+    for name, data in sheets(count):
+        outcomes += [agrees(program, name, b"1\n" + data, expected_line(data)) for program in evaluating]
+        outcomes += [agrees(program, name, data, listing.listing(data)) for program in listing_programs]
+    failed = outcomes.count(False)
+    print(f"{len(outcomes) - failed} passed, {failed} failed")
     return 1 if failed else 0
 
 

@@ -22,7 +22,14 @@ nothing. A call is a code and its arguments, each one field:
     8 LENGTH              write the schedule into LENGTH bytes (at most 700), each `?` before;
                           prints `write NUMBER PLACE LENGTH_OF_SHEET`, then the bytes lent as they
                           are afterwards, and byte 10
+    9 LENGTH ROOM         and behind these fields LENGTH bytes of a sheet (at most 1,100), as they
+                          are, and byte 10: list the sheet into the table and ROOM bytes of text
+                          (at most 4,200), each `?` before; prints `list NUMBER PLACE
+                          LENGTH_OF_TEXT`, then the bytes lent as they are afterwards, and byte 10,
+                          then a line `table` with every number lent, afterwards
     0                     the end
+
+Here a call is a tuple of its code and its arguments; that of a 9 is (9, SHEET, ROOM).
 
 Every printed number is decimal, has one space before it, and every line ends in byte 10.
 """
@@ -31,14 +38,17 @@ import itertools
 import sys
 
 import evaluation
+import listing
 import rows
 import sheet
 import stored
 
-END, TABLE, PUT, SCHEDULE, EVALUATE, RANGE, ROW, SAME, WRITE = range(9)
+END, TABLE, PUT, SCHEDULE, EVALUATE, RANGE, ROW, SAME, WRITE, LIST = range(10)
 
 TABLE_ROOM = 1_612
 WRITE_ROOM = 700
+SHEET_ROOM = 1_100
+LIST_ROOM = 4_200
 LEAST, GREATEST = -(2**63), 2**63 - 1
 GREATEST_USIZE = 2**64 - 1
 SPAN = rows.SPAN_LIMIT
@@ -94,6 +104,12 @@ class Library:
             out = bytearray(b"?" * arguments[0])
             self.line("write", *sheet.write(self.schedule, out))
             self.printed.append(bytes(out) + b"\n")
+        elif code == LIST:
+            data, room = arguments
+            text = bytearray(b"?" * room)
+            self.line("list", *listing.list_into(data, self.table, text))
+            self.printed.append(bytes(text) + b"\n")
+            self.line("table", *self.table)
 
 
 GOOD = sheet.schedule(
@@ -102,6 +118,7 @@ GOOD = sheet.schedule(
     [(1, 0, 0, -7), (4, 1, 2, 0), (5, 2, 0, 0), (2, 4, 5, 0), (3, 6, 4, 0)],
 )
 GOOD_ROWS = 7
+LARGEST = sheet.schedule(6, [(-(2**28), -(2**28))] * 6, [(1, 0, 0, -(2**28))] * 24)
 
 
 def changed(places) -> list[int]:
@@ -178,8 +195,7 @@ def calls_on_lengths():
     sheet_length = len(sheet.text(GOOD))
     for length in (0, 1, sheet_length - 1, sheet_length, sheet_length + 1, WRITE_ROOM):
         yield WRITE, length
-    largest = sheet.schedule(6, [(-(2**28), -(2**28))] * 6, [(1, 0, 0, -(2**28))] * 24)
-    yield SCHEDULE, *flat(largest)
+    yield SCHEDULE, *flat(LARGEST)
     for length in (1559, 1560, TABLE_ROOM):
         yield TABLE, length, 1
         yield EVALUATE,
@@ -292,17 +308,97 @@ def calls_on_an_evaluated_table():
         yield SAME, GOOD_ROWS, first, second
 
 
+def listed(data, table_length, fill, room=listing.TEXT_ROOM):
+    """A sheet listed into a fresh table."""
+    yield TABLE, table_length, fill
+    yield LIST, data, room
+
+
+# Two rows; their ends have either sign, and low and high differ in digits too.
+SHORT = sheet.text(sheet.schedule(1, [(-300, 20)], [(3, 1, 1, 0)]))
+SHORT_NUMBERS = 2 * rows.NUMBERS
+
+# Each is refused, by 1 to 7 in turn: the last two after one row or more.
+REFUSED = [
+    SHORT + b"\n" * (1025 - len(SHORT)),
+    SHORT[:-1],
+    SHORT.replace(b"1 1 1\n", b"1 2 1\n"),
+    SHORT.replace(b"-300 20\n", b"21 20\n"),
+    SHORT.replace(b"3 1 1 0\n", b"3 1 2 0\n"),
+    sheet.text(sheet.schedule(0, [(5, 2**28)], [(4, 1, 1, 0)])),
+    sheet.text(sheet.schedule(0, [(-5, 6)], [(1, 0, 0, -9), (5, 1, 0, 0), (2, 1, 1, 0)])),
+]
+
+
+def listings_into_lent_bytes():
+    """Too few bytes, just enough and more: for a sheet that is listed, and, of the rooms that are
+    too small, for sheets and tables that would be refused otherwise."""
+    for room in (0, 1, 4095, 4096, 4097, LIST_ROOM):
+        yield from listed(SHORT, SHORT_NUMBERS + 1, 7, room)
+    for data in (b"", REFUSED[0], REFUSED[1], REFUSED[6]):
+        yield from listed(data, SHORT_NUMBERS, -7, 4095)
+    yield from listed(SHORT, SHORT_NUMBERS - 1, LEAST, 1)
+
+
+def listings_into_lent_tables():
+    """Tables empty, one number short, just long enough and longer, of any numbers."""
+    for fill in (0, 7, LEAST, GREATEST):
+        for length in (0, SHORT_NUMBERS - 1, SHORT_NUMBERS, SHORT_NUMBERS + 26):
+            yield from listed(SHORT, length, fill)
+    for length in (0, rows.NUMBERS * 30 - 1):
+        yield from listed(sheet.text(LARGEST), length, 1)
+
+
+def listings_of_refused_sheets():
+    """Each cause, with a table that is long enough, and with none: reading comes before the table,
+    and the table before the rows."""
+    for data in REFUSED:
+        yield from listed(data, 4 * rows.NUMBERS, 11)
+    for data in REFUSED[1:]:
+        yield from listed(data, 0, 0)
+
+
+def listings_of_any_bytes():
+    """Sheets of no byte and of the most bytes, and more than the most."""
+    for data in (b"", b"\n", b"\0" * 1024, SHORT + b"\n" * (1024 - len(SHORT)), b"?" * SHEET_ROOM):
+        yield from listed(data, 3, GREATEST)
+
+
+def listings_of_good_sheets():
+    """Rows of every kind, rows that are the same as several before, the widest numbers, 30 rows."""
+    widest = [(-(2**28), 2**28), (-(2**28), -(2**28))]
+    sums = [(2, 1, 1, 0), (2, 3, 3, 0), (3, 2, 3, 0), (2, 2, 2, 0), (2, 6, 6, 0)]
+    again = [(1, 0, 0, -7), (3, 1, 1, 0), (1, 0, 0, -7), (1, 0, 0, -7), (3, 2, 2, 0), (2, 3, 4, 0)]
+    for data, fill in [
+        (listing.EXAMPLE_SHEET, LEAST),
+        (sheet.text(GOOD), GREATEST),
+        (sheet.text(sheet.schedule(0, widest, sums)), 7),
+        (sheet.text(sheet.schedule(2, [(-5, 6), (-6, 5)], again)), 7),
+    ]:
+        yield from listed(data, rows.NUMBERS * 8, fill)
+    yield from listed(sheet.text(LARGEST), TABLE_ROOM, -1)
+
+
 def calls() -> list[tuple]:
     groups = (
         calls_on_schedules, calls_on_lengths, calls_on_refused_rows, calls_on_counts_and_rows,
-        calls_on_spans, calls_on_comparison, calls_on_an_evaluated_table,
+        calls_on_spans, calls_on_comparison, calls_on_an_evaluated_table, listings_into_lent_bytes,
+        listings_into_lent_tables, listings_of_refused_sheets, listings_of_any_bytes,
+        listings_of_good_sheets,
     )
     return [call for group in groups for call in group()] + [(END,)]
 
 
+def fields(numbers) -> bytes:
+    return " ".join(f"{number % 2**64:016x}" for number in numbers).encode() + b"\n"
+
+
 def encoded(call) -> bytes:
-    """The fields of one call."""
-    return " ".join(f"{number % 2**64:016x}" for number in call).encode() + b"\n"
+    """The fields of one call, and the bytes behind them."""
+    if call[0] == LIST:
+        code, data, room = call
+        return fields([code, len(data), room]) + data + b"\n"
+    return fields(call)
 
 
 def expected(every) -> bytes:

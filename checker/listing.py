@@ -1,4 +1,5 @@
-"""What the program prints for the bytes of a sheet ("What the program prints": manual, section 3).
+"""What the program prints for the bytes of a sheet ("What the program prints": manual, section 3),
+and the call of the library that writes it into lent bytes.
 
     python3 checker/listing.py < SHEET
 """
@@ -10,6 +11,7 @@ import rows
 import sheet
 
 TABLE_LENGTH = 1_560
+TEXT_ROOM = 4_096
 
 # "This one is (x + 1)² - 2x"; "and it prints"
 EXAMPLE_SHEET = b"""\
@@ -59,19 +61,36 @@ def listing_line(table, count: int, row: int) -> bytes:
     return b"%d %d %d %d %d\n" % (row, low, high, own, first_same_row(table, row))
 
 
-def listing(data: bytes) -> bytes:
-    """"It reads a sheet from standard input [...] and it prints"; "The program lends a table of
-    1,560 numbers, all zero at the start."."""
+def printed_text(data: bytes, table: list) -> bytes:
+    """The listing of a sheet evaluated into a lent table, which evaluation leaves as it leaves it,
+    or the refusal of reading or evaluation, a table too short among them."""
     answer = sheet.read(data)
     if answer.number:
         return refusal_text(answer.number, answer.place)
-    table = [0] * TABLE_LENGTH
     refusal = evaluation.evaluate(answer.schedule, table)
     if refusal.number:
         return refusal_text(*refusal)
     count = answer.schedule.counts.inputs + answer.schedule.counts.steps
     lines = [listing_line(table, count, row) for row in range(1, count + 1)]
     return b"row low high own same\n" + b"".join(lines)
+
+
+def list_into(data: bytes, table: list, text: bytearray) -> sheet.WriteAnswer:
+    """The call of the library: the text at the start of the lent bytes, every byte behind it as it
+    was; fewer than 4,096 bytes are 8 at place 0, and nothing is touched."""
+    if len(text) < TEXT_ROOM:
+        return sheet.WriteAnswer(8, 0, 0)
+    printed = printed_text(data, table)
+    text[: len(printed)] = printed
+    return sheet.WriteAnswer(0, 0, len(printed))
+
+
+def listing(data: bytes) -> bytes:
+    """"It reads a sheet from standard input [...] and it prints"; "The program lends a table of
+    1,560 numbers, all zero at the start."."""
+    text = bytearray(TEXT_ROOM)
+    answer = list_into(data, [0] * TABLE_LENGTH, text)
+    return bytes(text[: answer.length])
 
 
 def files() -> dict[str, bytes]:

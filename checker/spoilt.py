@@ -1,10 +1,11 @@
 """Rows and sheets got wrong in one place at a time: what the checker must be able to notice.
 
-`spoilt(name)` is a context in which the module `rows` or `sheet` is wrong in the way named. In
+`spoilt(name)` is a context in which one module is wrong in the way named. In
 those of UNSOUND demand 3 fails, and demand3.py must find a sheet where it does. Those of
 OTHER_NUMBERS give other numbers than the specification, those of OTHER_SHEETS read otherwise: the
 generated sheets must tell them from the right ones, and the cases of sheet_cases.py the latter.
-Those of OTHER_CALLS are wrong in `evaluation`, and the calls of library_calls.py must tell them.
+Those of OTHER_CALLS are wrong in `evaluation` and those of OTHER_LISTINGS in `listing`, and the
+calls of library_calls.py must tell them.
 """
 
 import contextlib
@@ -12,6 +13,7 @@ import re
 import unittest.mock
 
 import evaluation
+import listing
 import rows
 import sheet
 
@@ -531,11 +533,87 @@ OTHER_CALLS = {
 }
 
 
+def list_and_work_first(data, table, text):
+    """The table is touched where the text is too short."""
+    if len(text) < listing.TEXT_ROOM:
+        listing.printed_text(data, table)
+    return REAL_LISTING["list_into"](data, table, text)
+
+
+def list_with_a_byte_behind(data, table, text):
+    """A byte 0 is written behind the text."""
+    answer = REAL_LISTING["list_into"](data, table, text)
+    if answer.length:
+        text[answer.length] = 0
+    return answer
+
+
+def list_and_clear(data, table, text):
+    """Every byte lent is 0 before the text is written."""
+    if len(text) >= listing.TEXT_ROOM:
+        text[:] = bytes(len(text))
+    return REAL_LISTING["list_into"](data, table, text)
+
+
+def list_refusing_short_tables(data, table, text):
+    """A table too short is refused as bytes too short are, with no text."""
+    before = bytes(text)
+    answer = REAL_LISTING["list_into"](data, table, text)
+    if text.startswith(b"refused place\n8 "):
+        text[:] = before
+        return sheet.WriteAnswer(8, 0, 0)
+    return answer
+
+
+def text_into_cleared_table(data, table):
+    """A refusal of reading clears the table."""
+    if sheet.read(data).number:
+        table[:] = [0] * len(table)
+    return REAL_LISTING["printed_text"](data, table)
+
+
+def line_with(change):
+    """A row's line with its numbers changed."""
+
+    def listing_line(table, count, row):
+        numbers = map(int, REAL_LISTING["listing_line"](table, count, row).split())
+        return b"%d %d %d %d %d\n" % change(*numbers)
+
+    return {"listing_line": listing_line}
+
+
+def last_same_row(table, row):
+    numbers = evaluation.numbers_of(table, row)
+    return max((n for n in range(1, row) if evaluation.numbers_of(table, n) == numbers), default=0)
+
+
+REAL_LISTING = {
+    name: getattr(listing, name) for name in ("list_into", "printed_text", "listing_line")
+}
+
+OTHER_LISTINGS = {
+    "the table touched where the text is too short": {"list_into": list_and_work_first},
+    "a byte written behind the text": {"list_into": list_with_a_byte_behind},
+    "the bytes behind the text cleared": {"list_into": list_and_clear},
+    "a short table refused without a text": {"list_into": list_refusing_short_tables},
+    "a text of 4,095 bytes": {"TEXT_ROOM": listing.TEXT_ROOM - 1},
+    "a text of 4,097 bytes": {"TEXT_ROOM": listing.TEXT_ROOM + 1},
+    "the table cleared beside a refusal of reading": {"printed_text": text_into_cleared_table},
+    "the sign of a negative low end lost": line_with(
+        lambda row, low, high, own, same: (row, abs(low), high, own, same)
+    ),
+    "low and high exchanged": line_with(
+        lambda row, low, high, own, same: (row, high, low, own, same)
+    ),
+    "the last row that is the same": {"first_same_row": last_same_row},
+}
+
+
 @contextlib.contextmanager
 def spoilt(name):
     """The module that the name's group is about, with the parts named replaced."""
     groups = [(rows, UNSOUND), (rows, OTHER_NUMBERS), (sheet, OTHER_SHEETS)]
-    groups += [(evaluation, OTHER_CALLS)]
+    groups += [(evaluation, OTHER_CALLS), (listing, OTHER_LISTINGS)]
     module, parts = next((module, group[name]) for module, group in groups if name in group)
     with unittest.mock.patch.multiple(module, **parts):
         yield

@@ -476,26 +476,41 @@ class LibraryCalls(unittest.TestCase):
                 self.assertLessEqual(call[1], library_calls.TABLE_ROOM)
             if call[0] == library_calls.WRITE:
                 self.assertLessEqual(call[1], library_calls.WRITE_ROOM)
-            self.assertEqual(len(library_calls.encoded(call)), 17 * len(call))
+            if call[0] == library_calls.LIST:
+                self.assertLessEqual(len(call[1]), library_calls.SHEET_ROOM)
+                self.assertLessEqual(call[2], library_calls.LIST_ROOM)
+            behind = len(call[1]) + 1 if call[0] == library_calls.LIST else 0
+            self.assertEqual(len(library_calls.encoded(call)), 17 * len(call) + behind)
 
     def test_every_number_occurs(self):
         lines = library_calls.expected(library_calls.calls()).split(b"\n")
         fields = [line.split() for line in lines]
         seen = {
             word: {int(field[1]) for field in fields if field[:1] == [word]}
-            for word in (b"evaluate", b"range", b"same", b"write")
+            for word in (b"evaluate", b"range", b"same", b"write", b"list")
         }
         self.assertEqual(seen[b"evaluate"], {0, 3, 4, 5, 6, 7, 8})
         self.assertEqual(seen[b"range"], {0, 6, 8, 9})
         self.assertEqual(seen[b"same"], {0, 6, 8, 9})
         self.assertEqual(seen[b"write"], {0, 3, 4, 5, 8})
+        self.assertEqual(seen[b"list"], {0, 8})
+        texts = [after for line, after in zip(fields, fields[1:]) if line == [b"refused", b"place"]]
+        self.assertEqual({int(number) for number, _ in texts}, set(range(1, 9)))
 
     def test_the_calls_tell_every_fault(self):
+        """Listings tell the faults of listing, the other calls those of evaluation."""
         every = library_calls.calls()
-        expected = library_calls.expected(every)
-        for name in spoilt.OTHER_CALLS:
+        of_listing = (library_calls.TABLE, library_calls.LIST)
+        listings = [call for call in every if call[0] in of_listing]
+        others = [call for call in every if call[0] != library_calls.LIST]
+        self.assert_told(others, spoilt.OTHER_CALLS)
+        self.assert_told(listings, spoilt.OTHER_LISTINGS)
+
+    def assert_told(self, calls, names):
+        expected = library_calls.expected(calls)
+        for name in names:
             with self.subTest(name), spoilt.spoilt(name):
-                self.assertFalse(library_calls.expected(every) == expected)
+                self.assertFalse(library_calls.expected(calls) == expected)
 
     def test_a_schedule_comes_back_from_its_numbers(self):
         numbers = library_calls.flat(library_calls.GOOD)

@@ -1,42 +1,12 @@
 //! The specification written plainly in Rust, to be timed beside `bench_evaluate`: standard input has a line with a count N and then a
 //! sheet; the sheet is read, evaluated N times into one table, and one line is printed: N, and the last row's low and high.
+mod evaluation;
 mod rows;
 mod sheet;
 
 use rows::Row;
-use sheet::{Refusal, Schedule};
+use sheet::Refusal;
 use std::io::Read;
-
-fn evaluate(schedule: &Schedule, table: &mut [Row]) -> Result<(), Refusal> {
-    schedule.test()?;
-    let rows = schedule.inputs + schedule.steps;
-    if table.len() < rows {
-        return Err(Refusal { number: 8, place: 0 });
-    }
-    for own in 0..rows {
-        match work_row(schedule, table, own) {
-            Ok(row) => table[own] = row,
-            Err(number) => return Err(Refusal { number, place: own + 1 }),
-        }
-    }
-    Ok(())
-}
-
-fn work_row(schedule: &Schedule, table: &[Row], own: usize) -> Result<Row, u64> {
-    if own < schedule.inputs {
-        let end = &schedule.ends[own];
-        return rows::input(own, end.low, end.high);
-    }
-    let step = &schedule.step[own - schedule.inputs];
-    let squares = schedule.squares;
-    match step.code {
-        1 => rows::constant(step.value),
-        2 => rows::add(&table[step.first - 1], &table[step.second - 1]),
-        3 => rows::subtract(&table[step.first - 1], &table[step.second - 1]),
-        4 => rows::multiply(&table[step.first - 1], &table[step.second - 1], squares, own),
-        _ => rows::reciprocal(&table[step.first - 1], squares, own),
-    }
-}
 
 fn run(input: &[u8]) -> Result<String, Refusal> {
     let line = input.iter().position(|&b| b == b'\n').unwrap_or(input.len());
@@ -45,7 +15,7 @@ fn run(input: &[u8]) -> Result<String, Refusal> {
     let mut table = [Row::ZERO; 30];
     let mut answer = Ok(());
     for _ in 0..times {
-        answer = evaluate(std::hint::black_box(&schedule), &mut table);
+        answer = evaluation::evaluate(std::hint::black_box(&schedule), &mut table);
     }
     answer?;
     let range = table[schedule.inputs + schedule.steps - 1].range();

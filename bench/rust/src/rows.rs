@@ -13,7 +13,7 @@ const ORDER: [(usize, usize); PAIRS] = [
     (5, 5),
 ];
 
-#[derive(Clone, Copy)]
+#[derive(Clone, Copy, PartialEq)]
 pub struct Row {
     pub centre: i64,
     pub linear: [i64; SYMBOLS],

@@ -1,7 +1,8 @@
 // Makes the library calls that its data file lists, on hostile arguments too, and prints what each answers and leaves.
 //
 // The file `calls` has fields of 17 bytes: 16 hexadecimal digits, and a byte that means nothing. A call is a code and its arguments, each one
-// field. `checker/library_calls.py` says what each code is and what it prints; it makes the file and the same lines.
+// field; a sheet that is to be listed stands behind its call, byte for byte. `checker/library_calls.py` says what each code is and what it prints; it
+// makes the file and the same lines.
 use libc::STDOUT_FILENO;
 use sheet::End;
 use sheet::MAX_INPUTS;
@@ -9,6 +10,7 @@ use sheet::MAX_STEPS;
 use sheet::Refusal;
 use sheet::Schedule;
 use sheet::Step;
+use sheet::WriteAnswer;
 ghost use mathlib.Core.Path.{_≡_};
 ghost use Prim.Native.Nat.{_≤_};
 ghost use lib.ListN.{length};
@@ -17,6 +19,10 @@ ghost use lib.ListN.{length};
 const TABLE_ROOM: usize = 1612;
 
 const WRITE_ROOM: usize = 700;
+
+const LIST_ROOM: usize = 4200;
+// The most bytes of a sheet that is listed.
+const SHEET_ROOM: usize = 1100;
 
 const FIELD: usize = 17;
 
@@ -75,6 +81,13 @@ fn next_at_most(fd: i32, most: usize) -> usize
 {
     let n = next_size(fd);
     if n <= most { n } else { most }
+}
+
+// Fills the lent bytes with the next ones, and passes over the byte behind them.
+fn next_bytes(fd: i32, bytes: &mut [u8]) {
+    io::read_full(fd, bytes);
+    let mut behind = [0u8; 1];
+    io::read_full(fd, &mut behind);
 }
 
 fn next_ends(fd: i32) -> [End; MAX_INPUTS] {
@@ -160,6 +173,21 @@ fn print_numbers(numbers: &[i64]) {
     print_line_end();
 }
 
+fn print_table(table: &[i64]) {
+    io::write_all(STDOUT_FILENO, b"table");
+    print_numbers(table);
+}
+
+// The answer of a call that writes, and the bytes lent to it.
+fn print_written(answer: WriteAnswer, bytes: &[u8]) {
+    let refusal = answer.refusal;
+    print_refusal(refusal);
+    print_unsigned(answer.length as u64);
+    print_line_end();
+    io::write_all(STDOUT_FILENO, bytes);
+    print_line_end();
+}
+
 // ---- the calls, on the part of the table that is lent
 
 fn fill(table: &mut [i64], value: i64) {
@@ -181,8 +209,7 @@ fn evaluate(schedule: Schedule, table: &mut [i64]) {
     io::write_all(STDOUT_FILENO, b"evaluate");
     print_refusal(refusal);
     print_line_end();
-    io::write_all(STDOUT_FILENO, b"table");
-    print_numbers(&*table);
+    print_table(&*table);
 }
 
 fn range(fd: i32, table: &[i64]) {
@@ -218,13 +245,8 @@ fn same(fd: i32, table: &[i64]) {
 
 fn write(schedule: Schedule, out: &mut [u8]) {
     let answer = sheet::write(schedule, &mut *out);
-    let refusal = answer.refusal;
     io::write_all(STDOUT_FILENO, b"write");
-    print_refusal(refusal);
-    print_unsigned(answer.length as u64);
-    print_line_end();
-    io::write_all(STDOUT_FILENO, &*out);
-    print_line_end();
+    print_written(answer, &*out);
 }
 
 fn write_front(fd: i32, schedule: Schedule, out: &mut [u8]) {
@@ -237,6 +259,26 @@ fn write_fresh(fd: i32, schedule: Schedule) {
     write_front(fd, schedule, &mut out);
 }
 
+fn list(sheet: &[u8], table: &mut [i64], text: &mut [u8]) {
+    let answer = listing::list(sheet, &mut *table, &mut *text);
+    io::write_all(STDOUT_FILENO, b"list");
+    print_written(answer, &*text);
+    print_table(&*table);
+}
+
+fn list_front(fd: i32, sheet: &mut [u8], table: &mut [i64], text: &mut [u8]) {
+    let length = next_at_most(fd, sheet.len());
+    let room = next_at_most(fd, text.len());
+    next_bytes(fd, &mut sheet[0..length]);
+    list(&sheet[0..length], table, &mut text[0..room]);
+}
+
+fn list_fresh(fd: i32, table: &mut [i64]) {
+    let mut sheet = [0u8; SHEET_ROOM];
+    let mut text = [b'?'; LIST_ROOM];
+    list_front(fd, &mut sheet, table, &mut text);
+}
+
 // Makes the call of a code on the part of the table that is lent.
 fn call(fd: i32, code: u64, schedule: Schedule, table: &mut [i64]) {
     match code {
@@ -246,6 +288,7 @@ fn call(fd: i32, code: u64, schedule: Schedule, table: &mut [i64]) {
         6 => row(fd, &*table),
         7 => same(fd, &*table),
         8 => write_fresh(fd, schedule),
+        9 => list_fresh(fd, table),
         _ => {}
     }
 }
