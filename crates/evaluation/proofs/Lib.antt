@@ -14,6 +14,7 @@ pub mod SoundRows
 pub mod WorkedTable
 pub mod EvaluationEnds
 pub mod AcceptedEvaluation
+pub mod RefusalRow
 pub mod FractionUnits
 pub mod RowEnclosure
 pub mod Demand3

@@ -1,10 +1,11 @@
--- Every number of a listing reads back: none has more than ten digits, since a row's low, high and coefficients are at most its span.
+-- Every number that is printed reads back: none has more than ten digits, since a row's low, high and coefficients are at most its span, and the
+-- numbers of a refusal are small.
 use mathlib.Core.Path.{_≡_, subst}
 use mathlib.Core.Logic.{_⊎_, inl, inr}
 use mathlib.Core.List.{List}
 use Prim.Native.Nat.{ℕ, zero, suc, _-_, _≤_}
 use native.Mathlib.Omega.{arith}
-use lib.IntN.{ℤ, natAbs}
+use lib.IntN.{ℤ, pos, natAbs}
 use Rattle.integer.specs.Sum.{sumAbs}
 use Rattle.affine.specs.Limits.{spanLimit}
 use Rattle.affine.specs.Lists.{at}
@@ -12,13 +13,16 @@ use Rattle.affine.specs.Row.{span}
 use Rattle.affine.proofs.RowSize.{element-within}
 use Rattle.affine.proofs.RangeSize.{low-within, high-within}
 use Rattle.sheet.specs.Number.{digitOf}
+use Rattle.sheet.specs.declared.Refusal.{Refusal}
 use Rattle.sheet.proofs.Numeral.{field-complete}
+use Rattle.sheet.proofs.RefusalSize.{Small, lastPlace, read-small}
 use Rattle.evaluation.specs.Table.{rowPart, rowAt}
 use Rattle.evaluation.proofs.AcceptedEvaluation.{rows-left-few, rows-left-within}
+use Rattle.evaluation.proofs.RefusalRow.{evaluated-small}
 use Rattle.evaluation.proofs.RowParts.{numbers-rowAt}
 use Rattle.listing.specs.Listing.{own, rowNumbers}
 use Rattle.listing.specs.Held.{RowHeld}
-use Rattle.listing.specs.Claims.{ReadsBack, Legible}
+use Rattle.listing.specs.Claims.{ReadsBack, Legible, RefusalReadsBack, RefusalsLegible}
 use Rattle.listing.proofs.HeldRows.{row-room, row-within, row-range, row-own}
 use Rattle.listing.proofs.FirstSame.{first-small}
 
@@ -51,3 +55,10 @@ pub legible : Legible
 legible c table e row l h i =
     short-reads-back _
     (number-short (record { rows = record { few = rows-left-few c table e; within = rows-left-within c table e }; from-one = l; up-to = h }) i)
+
+small-reads-back : {r : Refusal} → Small lastPlace r → RefusalReadsBack r
+small-reads-back {r} s = (short-reads-back (pos (r .number)) (omega (arith, s .number-small)), short-reads-back (pos (r .place)) (omega (arith, s .place-small)))
+
+-- REFUSALS LEGIBLE: of all bytes, schedules and tables.
+pub refusals-legible : RefusalsLegible
+refusals-legible = (λ sheet. small-reads-back (read-small sheet), λ c table. small-reads-back (evaluated-small c table))

@@ -4,13 +4,15 @@ use mathlib.Core.Path.{_≡_}
 use mathlib.Core.Logic.{_⊎_}
 use mathlib.Core.List.{List, _∷_, _++_}
 use Prim.Native.Nat.{ℕ, _+_, _≤_, _<_}
-use lib.IntN.{ℤ}
+use lib.IntN.{ℤ, pos}
 use lib.ListN.{length, take, drop}
 use Rattle.affine.specs.Lists.{at}
 use Rattle.sheet.specs.declared.Schedule.{Schedule}
+use Rattle.sheet.specs.declared.Refusal.{Refusal}
 use Rattle.sheet.specs.declared.number.Field.the-variants.{Number}
 use Rattle.sheet.specs.Limits.{maxBytes}
 use Rattle.sheet.specs.Number.{fieldAt}
+use Rattle.sheet.specs.Reading.{readOf}
 use Rattle.sheet.specs.Text.{numeral}
 use Rattle.evaluation.specs.Work.{rowCount, evaluated}
 use Rattle.listing.specs.Listing.{tableLeft, rowNumbers, textOf, tableNumbers, printed}
@@ -39,3 +41,12 @@ abbrev pub Legible : Type 0
 Legible =
     (c : Schedule) (table : List ℤ) → evaluated c table .refusal .number ≡ 0 → (row : ℕ) → 1 ≤ row → row ≤ rowCount c
     → (i : ℕ) → ReadsBack (at (rowNumbers (tableLeft c table) (rowCount c) row) i)
+
+-- So do both numbers of every refusal: of reading any bytes, and of evaluating any schedule into any table.
+abbrev pub RefusalReadsBack : Refusal → Type 0
+RefusalReadsBack r = ReadsBack (pos (r .number)) × ReadsBack (pos (r .place))
+
+abbrev pub RefusalsLegible : Type 0
+RefusalsLegible =
+    ((sheet : List ℕ) → RefusalReadsBack (readOf sheet .refusal))
+    × ((c : Schedule) (table : List ℤ) → RefusalReadsBack (evaluated c table .refusal))

@@ -23,4 +23,5 @@ pub mod SheetWrite
 pub mod Trimmed
 pub mod RoundTrip
 pub mod FirstFault
+pub mod RefusalSize
 pub mod Examples
