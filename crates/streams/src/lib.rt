@@ -1,9 +1,10 @@
 // Input and output for thin programs: a buffer filled from a descriptor, and bytes written to one. A call that a signal interrupts is made again.
 //
-// Proved: every function is safe and ends, and an answer `Read(n)` counts bytes at the start of the buffer. What a call of the system read or wrote
-// is outside every contract: that each byte comes once and in order, and that what came out is a beginning of the bytes, is tested
-// (tests/failing_calls.sh). After a failure no other call of the system is made, so errno still says why.
+// Proved: every function is safe and ends, an answer `Read(n)` counts bytes at the start of the buffer, and where there are no bytes to write the
+// answer is yes. What a call of the system read or wrote is outside every contract: that each byte comes once and in order, and that what came out is
+// a beginning of the bytes, is tested (tests/failing_calls.sh). After a failure no other call of the system is made, so errno still says why.
 ghost use mathlib.Core.Path.{_≡_};
+ghost use mathlib.Core.Bool.{true};
 ghost use lib.ListN.{length};
 ghost use Rattle.streams.specs.Count.{CountsIn};
 
@@ -37,9 +38,11 @@ pub fn read_input(fd: i32, buf: &mut [u8]) -> Input
     Input::Read(done)
 }
 
-// Writes all of the bytes and answers true, or stops at the first write that fails or takes nothing and answers false. On no bytes it makes no call.
-// (A write that takes nothing leaves errno as it was.)
-pub fn write_all(fd: i32, bytes: &[u8]) -> bool {
+// Writes all of the bytes and answers true, or stops at the first write that fails or takes nothing and answers false. On no bytes it makes no call
+// and answers true; of any others the answer is the system's. (A write that takes nothing leaves errno as it was.)
+pub fn write_all(fd: i32, bytes: &[u8]) -> bool
+    ensures { λ r. ⌜ (length (now (bytes .entry)) ≡ 0 → r ≡ true) ⌝ }
+{
     let mut done: usize = 0;
     while done < bytes.len() {
         let rest = &bytes[done..];

@@ -1,5 +1,7 @@
--- `write_all` is safe and ends: each turn of the loop writes one byte more at least, and never past the end.
+-- `write_all` ends: each turn of the loop writes one byte more at least, and never past the end. It answers no only inside the loop, where a byte is left.
+use mathlib.Core.Path.{refl}
 use Prim.Native.Nat.{_-_, _≤_}
+use native.Mathlib.Omega.{arith}
 use lib.ListN.{length}
 use borrow.Author.Needs.{needs}
 use Rattle.streams.proofs.write_all.Statement.{statement}
@@ -30,7 +32,7 @@ count-requires : tie.Need-count-requires Inv-loop μ-loop
 count-requires c κs = search needs
 
 returns : tie.Need-returns Inv-loop μ-loop
-returns c = search needs
+returns c = λ e. absurd (omega arith)
 
 add-done : tie.Need-add-done Inv-loop μ-loop
 add-done c = search needs
@@ -42,7 +44,7 @@ loop-again : tie.Need-loop-again Inv-loop μ-loop
 loop-again c = search needs
 
 returns-2 : tie.Need-returns-2 Inv-loop μ-loop
-returns-2 c = search needs
+returns-2 c = λ e. refl
 
 pub write-all-spec : {M : Type 1} → statement M
 write-all-spec =
