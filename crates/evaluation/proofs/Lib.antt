@@ -1,6 +1,7 @@
 pub mod Sequence
 pub mod Induction
 pub mod WorkLaws
+pub mod ExactRows
 pub mod Made
 pub mod RowFacts
 pub mod PartLaws

@@ -24,14 +24,9 @@ use Rattle.sheet.proofs.Passed.{Passed}
 use Rattle.evaluation.specs.Work.{rowCount, namedRow, binaryAnswer, stepAnswer, rowAnswer}
 use Rattle.evaluation.specs.Values.{inUnits, namedValue, exactStep, exactRow, exactValues, exactValue}
 use Rattle.evaluation.proofs.Sequence.{grown, length-grown, getD-grown}
+use Rattle.evaluation.proofs.ExactRows.{named-value, input-value, step-value}
 use Rattle.evaluation.proofs.Induction.{lt-or-ge}
 use Rattle.evaluation.proofs.WorkLaws.{nextRow, rowsUpTo, Went, checked-accepted, Inverted, reciprocal-accepted}
-
--- the exact values grow as rows do
-exact-grown : (c : Schedule) (x : ℕ → Fraction) (n : ℕ) → exactValues c x n ≡ grown (exactRow c x) n
-unfolding exactValues grown
-exact-grown c x zero = refl
-exact-grown c x (suc n) = ap (λ l. l ++ (exactRow c x l ∷ [])) (exact-grown c x n)
 
 -- ---- the line of a row
 pub rowAnswer-input : (c : Schedule) (rows : List Row) (n : ℕ) → length rows ≡ n → n < natural (c .inputs) → rowAnswer c rows ≡ checked (inputRow n (endsAt c n .low) (endsAt c n .high))
@@ -57,15 +52,6 @@ step-of-row c passed n h l =
     let t = stepAt c (n - natural (c .inputs)) in
     let m : natural (c .inputs) + (n - natural (c .inputs)) ≡ n = omega arith in
     subst (λ k. StepPassed k (t .code) (t .first) (t .second) (t .value)) m (passed .steps (n - natural (c .inputs)) (omega arith))
-
-exactRow-input : (c : Schedule) (x : ℕ → Fraction) (values : List Fraction) (n : ℕ) → length values ≡ n → n < natural (c .inputs) → exactRow c x values ≡ x n
-unfolding exactRow
-exactRow-input c x values n e h = rw (e, lt-ltb n (natural (c .inputs)) h)
-
-exactRow-step : (c : Schedule) (x : ℕ → Fraction) (values : List Fraction) (n : ℕ) → length values ≡ n → natural (c .inputs) ≤ n
-    → exactRow c x values ≡ exactStep values (stepAt c (n - natural (c .inputs)))
-unfolding exactRow
-exactRow-step c x values n e h = rw (e, le-ltb n (natural (c .inputs)) h)
 
 -- ---- the code of a step
 data Code : ℕ → Type 0 where
@@ -107,12 +93,6 @@ module _ (c : Schedule) (passed : Passed c) (x : ℕ → Fraction) where
   -- a row that is named is the row of that number
   named-row : (n : ℕ) (z : ℤ) → Natural 1 n z → namedRow (rowsUpTo c n) z ≡ row (natural z - 1)
   named-row n z h = getD-grown (nextRow c) n (constantRow (pos 0)) (natural z - 1) (omega (arith, h .from, h .to))
-
-  named-value : (n : ℕ) (z : ℤ) → Natural 1 n z → namedValue (exactValues c x n) z ≡ value (natural z - 1)
-  named-value n z h =
-      ap (λ l. getD l (natural z - 1) (whole (pos 0))) (exact-grown c x n)
-      ∙ getD-grown (exactRow c x) n (whole (pos 0)) (natural z - 1) (omega (arith, h .from, h .to))
-      ∙ ap (exactRow c x) (sym (exact-grown c x (natural z - 1)))
 
   named-before : (n : ℕ) (z : ℤ) → Natural 1 n z → natural z - 1 < n
   named-before n z h = omega (arith, h .from, h .to)
@@ -159,7 +139,7 @@ module _ (c : Schedule) (passed : Passed c) (x : ℕ → Fraction) where
         let exact : exactStep values t ≡ namedValue values (t .first) +ℚ namedValue values (t .second) = rw e in
         is-sum late (natural (t .first) - 1) (natural (t .second) - 1) (named-before n (t .first) p) (named-before n (t .second) q)
         (row-is ∙ ap (λ a. a .row) made ∙ checked-accepted _ (rw made at status) ∙ ap₂ addRows (named-row n (t .first) p) (named-row n (t .second) q))
-        (value-is ∙ exact ∙ ap₂ (λ a b. a +ℚ b) (named-value n (t .first) p) (named-value n (t .second) q))
+        (value-is ∙ exact ∙ ap₂ (λ a b. a +ℚ b) (named-value c x n (t .first) p) (named-value c x n (t .second) q))
     by-code k e is-3 =
         let p = first-named (omega (arith, e)) in
         let q = second-named (omega (arith, e)) (omega (arith, e)) in
@@ -167,7 +147,7 @@ module _ (c : Schedule) (passed : Passed c) (x : ℕ → Fraction) where
         let exact : exactStep values t ≡ namedValue values (t .first) -ℚ namedValue values (t .second) = rw e in
         is-difference late (natural (t .first) - 1) (natural (t .second) - 1) (named-before n (t .first) p) (named-before n (t .second) q)
         (row-is ∙ ap (λ a. a .row) made ∙ checked-accepted _ (rw made at status) ∙ ap₂ subtractRows (named-row n (t .first) p) (named-row n (t .second) q))
-        (value-is ∙ exact ∙ ap₂ (λ a b. a -ℚ b) (named-value n (t .first) p) (named-value n (t .second) q))
+        (value-is ∙ exact ∙ ap₂ (λ a b. a -ℚ b) (named-value c x n (t .first) p) (named-value c x n (t .second) q))
     by-code k e is-4 =
         let p = first-named (omega (arith, e)) in
         let q = second-named (omega (arith, e)) (omega (arith, e)) in
@@ -177,7 +157,7 @@ module _ (c : Schedule) (passed : Passed c) (x : ℕ → Fraction) where
         (row-is ∙ ap (λ a. a .row) made ∙ checked-accepted _ (rw made at status)
         ∙ ap (λ m. productRow squares m (namedRow rows (t .first)) (namedRow rows (t .second))) (length-grown (nextRow c) n)
         ∙ ap₂ (productRow squares n) (named-row n (t .first) p) (named-row n (t .second) q))
-        (value-is ∙ exact ∙ ap₂ (λ a b. a *ℚ b) (named-value n (t .first) p) (named-value n (t .second) q))
+        (value-is ∙ exact ∙ ap₂ (λ a b. a *ℚ b) (named-value c x n (t .first) p) (named-value c x n (t .second) q))
     by-code k e is-5 =
         let p = first-named (omega (arith, e)) in
         let exact : exactStep values t ≡ reciprocalOf (namedValue values (t .first)) = rw e in
@@ -186,15 +166,12 @@ module _ (c : Schedule) (passed : Passed c) (x : ℕ → Fraction) where
         (row-is ∙ ap (λ a. a .row) (reciprocal-made e) ∙ w .row
         ∙ ap (λ m. reciprocalRow squares m (namedRow rows (t .first)) (distance (namedRow rows (t .first)))) (length-grown (nextRow c) n)
         ∙ ap (λ r. reciprocalRow squares n r (distance r)) (named-row n (t .first) p))
-        (value-is ∙ exact ∙ ap reciprocalOf (named-value n (t .first) p))
+        (value-is ∙ exact ∙ ap reciprocalOf (named-value c x n (t .first) p))
 
   -- the line of a row, and what is known of a step's
   module _ (went : Went c (rowCount c)) (n : ℕ) (h : n < rowCount c) where
     long : length (rowsUpTo c n) ≡ n
     long = length-grown (nextRow c) n
-
-    long-values : length (exactValues c x n) ≡ n
-    long-values = ap length (exact-grown c x n) ∙ length-grown (exactRow c x) n
 
     module _ (l : natural (c .inputs) ≤ n) where
       abbrev t : Step
@@ -211,13 +188,13 @@ module _ (c : Schedule) (passed : Passed c) (x : ℕ → Fraction) where
 
       made-by-step : Made n
       made-by-step =
-          by-code n l t step-passed status (ap (λ a. a .row) answer) (exactRow-step c x (exactValues c x n) n long-values l)
+          by-code n l t step-passed status (ap (λ a. a .row) answer) (step-value c x n l)
           (natural (t .code)) refl (code-of (natural (t .code)) (step-passed .code-in .from) (step-passed .code-in .to))
 
       divided : natural (t .code) ≡ lastCode → (natural (t .first) - 1 < n) × (zeroInRange (row (natural (t .first) - 1)) ≡ false)
       divided e = (
         named-before n (t .first) (step-passed .first-row (omega (arith, e))),
-        divisor-apart n l t step-passed status (ap (λ a. a .row) answer) (exactRow-step c x (exactValues c x n) n long-values l) e,
+        divisor-apart n l t step-passed status (ap (λ a. a .row) answer) (step-value c x n l) e,
       )
 
     pub made : Made n
@@ -226,7 +203,7 @@ module _ (c : Schedule) (passed : Passed c) (x : ℕ → Fraction) where
         by-line : (n < natural (c .inputs)) ⊎ (natural (c .inputs) ≤ n) → Made n
         by-line (inl l) =
             let e = rowAnswer-input c (rowsUpTo c n) n long l in
-            is-input l (ap (λ a. a .row) e ∙ checked-accepted _ (rw e at (went .each n h))) (exactRow-input c x (exactValues c x n) n long-values l)
+            is-input l (ap (λ a. a .row) e ∙ checked-accepted _ (rw e at (went .each n h))) (input-value c x n l)
         by-line (inr l) = made-by-step l
 
   -- "An exact divisor is the exact value of the row that a reciprocal names": an earlier row, whose range does not hold 0

@@ -17,6 +17,7 @@ pub mod TestedLines
 pub mod Blocks
 pub mod SheetRead
 pub mod Passed
+pub mod LinesPass
 pub mod SheetLength
 pub mod CountsRead
 pub mod SheetWrite

@@ -8,7 +8,7 @@ use lib.ListN.{length, set, length-append}
 use lib.Seq.{sets}
 use Rattle.sheet.specs.Wrote.{Wrote}
 
-pub sets-append : (xs ys l : List ℕ) (i : ℕ) → sets (sets l i xs) (i + length xs) ys ≡ sets l i (xs ++ ys)
+pub sets-append : {A : Type 0} (xs ys l : List A) (i : ℕ) → sets (sets l i xs) (i + length xs) ys ≡ sets l i (xs ++ ys)
 sets-append [] ys l i = rw add-zero
 sets-append (x ∷ xs) ys l i = rw (add-suc, ← suc-add) (sets-append xs ys (set l i x) (suc i))
 

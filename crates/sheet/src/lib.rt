@@ -14,9 +14,13 @@ mod writer; // writer.rt: a schedule written, line by line
 // What a count is as a natural number, for the callers of `test`.
 pub use lines::natural;
 
-// Bytes, a number, a count and a line of numbers written at a position, for libraries that write lines of their own.
+// Bytes, a number, a count and a line of numbers written at a position, for libraries that write lines of their own; a number field, read.
 pub use fields::put_bytes;
 pub use fields::put_fields;
+pub use number::Field;
+pub use number::byte;
+pub use number::digit;
+pub use number::field_at;
 pub use number::put_count;
 pub use number::put_number;
 

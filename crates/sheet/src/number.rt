@@ -21,7 +21,7 @@ pub enum Field {
 }
 
 // The digit that a byte stands for, or 10.
-fn digit(b: u8) -> u64
+pub fn digit(b: u8) -> u64
     ensures { λ r. ⌜ r ≡ digitOf b ⌝ }
 {
     if b < 48 {
@@ -65,7 +65,7 @@ fn signed(minus: bool, v: u64) -> i64
 }
 
 // The byte at a position, or 0 past the end.
-fn byte(s: &[u8], i: usize) -> u8
+pub fn byte(s: &[u8], i: usize) -> u8
     ensures { λ r. ⌜ r ≡ getD (now (s .entry)) i 0 ⌝ }
 {
     if i < s.len() { s[i] } else { 0 }
