@@ -27,9 +27,16 @@ nothing. A call is a code and its arguments, each one field:
                           (at most 4,200), each `?` before; prints `list NUMBER PLACE
                           LENGTH_OF_TEXT`, then the bytes lent as they are afterwards, and byte 10,
                           then a line `table` with every number lent, afterwards
+    10 and 14 numbers     inputs squares, 6 times low high: these of the schedule are replaced
+    11 LENGTH             and behind this field LENGTH bytes of a formula (at most 700), as they
+                          are, and byte 10: read the formula over the inputs, squares and ends of
+                          the schedule, which stays; prints `formula NUMBER PLACE INPUTS SQUARES
+                          STEPS`, and behind them ` end I LOW HIGH` and ` step J STEP FIRST SECOND
+                          VALUE` for each of the 6 ends and 24 steps that is not all zeros
     0                     the end
 
-Here a call is a tuple of its code and its arguments; that of a 9 is (9, SHEET, ROOM).
+Here a call is a tuple of its code and its arguments; that of a 9 is (9, SHEET, ROOM), and that of an
+11 is (11, TEXT).
 
 Every printed number is decimal, has one space before it, and every line ends in byte 10.
 """
@@ -38,17 +45,20 @@ import itertools
 import sys
 
 import evaluation
+import formula
+import formula_cases
 import listing
 import rows
 import sheet
 import stored
 
-END, TABLE, PUT, SCHEDULE, EVALUATE, RANGE, ROW, SAME, WRITE, LIST = range(10)
+END, TABLE, PUT, SCHEDULE, EVALUATE, RANGE, ROW, SAME, WRITE, LIST, INPUTS, FORMULA = range(12)
 
 TABLE_ROOM = 1_612
 WRITE_ROOM = 700
 SHEET_ROOM = 1_100
 LIST_ROOM = 4_200
+FORMULA_ROOM = 700
 LEAST, GREATEST = -(2**63), 2**63 - 1
 GREATEST_USIZE = 2**64 - 1
 SPAN = rows.SPAN_LIMIT
@@ -69,6 +79,14 @@ def schedule_of(numbers) -> sheet.Schedule:
         tuple(sheet.Ends(*ends[at : at + 2]) for at in range(0, len(ends), 2)),
         tuple(sheet.Step(*steps[at : at + 4]) for at in range(0, len(steps), 4)),
     )
+
+
+def not_zero(schedule):
+    """The ends and steps of a schedule that are not all zeros, each with its kind and number."""
+    for word, block in (("end", schedule.ends), ("step", schedule.steps)):
+        for number, numbers in enumerate(block, 1):
+            if any(numbers):
+                yield from (word, number, *numbers)
 
 
 class Library:
@@ -110,6 +128,14 @@ class Library:
             self.line("list", *listing.list_into(data, self.table, text))
             self.printed.append(bytes(text) + b"\n")
             self.line("table", *self.table)
+        elif code == INPUTS:
+            numbers = flat(self.schedule)
+            numbers[:2], numbers[3:15] = arguments[:2], arguments[2:]
+            self.schedule = schedule_of(numbers)
+        elif code == FORMULA:
+            inputs, squares, _ = self.schedule.counts
+            answer = formula.read(inputs, squares, self.schedule.ends, *arguments)
+            self.line("formula", *answer[:2], *answer.schedule.counts, *not_zero(answer.schedule))
 
 
 GOOD = sheet.schedule(
@@ -379,12 +405,23 @@ def listings_of_good_sheets():
     yield from listed(sheet.text(LARGEST), TABLE_ROOM, -1)
 
 
+def formulas_read():
+    """Every case of formula_cases.py; the inputs are told where they change."""
+    told = None
+    for inputs, squares, ends, text in formula_cases.cases():
+        block = inputs, squares, *itertools.chain(*ends)
+        if block != told:
+            yield INPUTS, *block
+            told = block
+        yield FORMULA, text
+
+
 def calls() -> list[tuple]:
     groups = (
         calls_on_schedules, calls_on_lengths, calls_on_refused_rows, calls_on_counts_and_rows,
         calls_on_spans, calls_on_comparison, calls_on_an_evaluated_table, listings_into_lent_bytes,
         listings_into_lent_tables, listings_of_refused_sheets, listings_of_any_bytes,
-        listings_of_good_sheets,
+        listings_of_good_sheets, formulas_read,
     )
     return [call for group in groups for call in group()] + [(END,)]
 
@@ -398,6 +435,9 @@ def encoded(call) -> bytes:
     if call[0] == LIST:
         code, data, room = call
         return fields([code, len(data), room]) + data + b"\n"
+    if call[0] == FORMULA:
+        code, text = call
+        return fields([code, len(text)]) + text + b"\n"
     return fields(call)
 
 

@@ -4,8 +4,8 @@
 those of UNSOUND demand 3 fails, and demand3.py must find a sheet where it does. Those of
 OTHER_NUMBERS give other numbers than the specification, those of OTHER_SHEETS read otherwise: the
 generated sheets must tell them from the right ones, and the cases of sheet_cases.py the latter.
-Those of OTHER_CALLS are wrong in `evaluation` and those of OTHER_LISTINGS in `listing`, and the
-calls of library_calls.py must tell them.
+Those of OTHER_CALLS are wrong in `evaluation`, those of OTHER_LISTINGS in `listing` and those of
+OTHER_FORMULAS in `formula`, and the calls of library_calls.py must tell them.
 """
 
 import contextlib
@@ -13,6 +13,7 @@ import re
 import unittest.mock
 
 import evaluation
+import formula
 import listing
 import rows
 import sheet
@@ -609,11 +610,254 @@ OTHER_LISTINGS = {
 }
 
 
+class FromTheRight(formula.Reader):
+    def chain(self, signs, operand):
+        tree = operand()
+        if self.here() not in signs:
+            return tree
+        sign = self.here()
+        self.at += 1
+        return formula.Signed(sign, tree, self.chain(signs, operand))
+
+
+class OneRank(formula.Reader):
+    def sum(self, open_brackets):
+        signs = formula.SUM_SIGNS + formula.PRODUCT_SIGNS
+        return self.chain(signs, lambda: self.operand(open_brackets))
+
+
+class SumsFirst(formula.Reader):
+    def sum(self, open_brackets):
+        return self.chain(formula.PRODUCT_SIGNS, lambda: self.product(open_brackets))
+
+    def product(self, open_brackets):
+        return self.chain(formula.SUM_SIGNS, lambda: self.operand(open_brackets))
+
+
+class WithEveryLetter(formula.Reader):
+    def __init__(self, text, inputs):
+        super().__init__(text, sheet.INPUTS_LIMIT)
+
+
+class WithCapitals(formula.Reader):
+    def __init__(self, text, inputs):
+        super().__init__(text.lower(), inputs)
+
+
+class WithBlanks(formula.Reader):
+    def here(self):
+        while self.text[self.at : self.at + 1] in (b" ", b"\n"):
+            self.at += 1
+        return super().here()
+
+
+class WithMinus(formula.Reader):
+    """A minus may stand before a literal."""
+
+    def operand(self, open_brackets):
+        if self.here() == b"-" and formula.LITERAL.match(self.text, self.at + 1):
+            self.at += 1
+        return super().operand(open_brackets)
+
+
+class WithoutEndOfText(formula.Reader):
+    """What follows a formula is not looked at."""
+
+    def formula(self):
+        return self.sum(0)
+
+
+class WithPlaceMoved(formula.Reader):
+    moved = 1
+
+    def wrong(self):
+        return sheet.Refusal(10, self.at + 1 + self.moved)
+
+
+class WithPlaceBefore(WithPlaceMoved):
+    moved = -1
+
+
+class WithPlaceOfBracket(formula.Reader):
+    """A bracket that is not closed is the place itself."""
+
+    def bracket(self, open_brackets):
+        opened = self.at
+        try:
+            return super().bracket(open_brackets)
+        except sheet.Refusal as refusal:
+            raise sheet.Refusal(10, opened + 1 if self.at >= len(self.text) else refusal.place)
+
+
+def place_beyond_200(text, inputs):
+    """The first wrong byte of a long text also where it lies behind the first 200."""
+    tree = formula.Reader(text, inputs).formula()
+    if len(text) > formula.LENGTH_LIMIT:
+        raise sheet.Refusal(10, formula.LENGTH_LIMIT + 1)
+    return tree
+
+
+def length_first(text, inputs):
+    if len(text) > formula.LENGTH_LIMIT:
+        raise sheet.Refusal(10, formula.LENGTH_LIMIT + 1)
+    return REAL_FORMULA["tree_of"](text, inputs)
+
+
+def right_steps_first(tree, inputs, steps):
+    if not isinstance(tree, formula.Signed):
+        return REAL_FORMULA["add_steps"](tree, inputs, steps)
+    second = right_steps_first(tree.right, inputs, steps)
+    first = right_steps_first(tree.left, inputs, steps)
+    if tree.sign == b"/":
+        steps.append(sheet.Step(sheet.RECIPROCAL, second, 0, 0))
+        second = inputs + len(steps)
+    steps.append(sheet.Step(formula.CODES.get(tree.sign, sheet.MULTIPLY), first, second, 0))
+    return inputs + len(steps)
+
+
+def steps_with(change):
+    """The steps of a tree, changed as a whole."""
+
+    def add_steps(tree, inputs, steps):
+        made = []
+        REAL_FORMULA["add_steps"](tree, inputs, made)
+        steps.extend(change(inputs, made))
+        return inputs + len(steps)
+
+    return {"add_steps": add_steps}
+
+
+def exchanged(code):
+    """Where a step has this code, its two operands are exchanged."""
+
+    def change(inputs, steps):
+        return [
+            step._replace(first=step.second, second=step.first) if step.code == code else step
+            for step in steps
+        ]
+
+    return steps_with(change)
+
+
+def literals_that_wrap(bits):
+    """Literals are read into so many bits."""
+
+    def test_literals(tree):
+        for literal in formula.literals(tree):
+            if int(literal.digits) % 2**bits > formula.LITERAL_LIMIT:
+                raise sheet.Refusal(5, literal.place)
+
+    return {"test_literals": test_literals}
+
+
+def place_of_last_literal(tree):
+    beyond = [
+        literal for literal in formula.literals(tree) if int(literal.digits) > formula.LITERAL_LIMIT
+    ]
+    if beyond:
+        raise sheet.Refusal(5, beyond[-1].place)
+
+
+def place_behind_literal(tree):
+    for literal in formula.literals(tree):
+        if int(literal.digits) > formula.LITERAL_LIMIT:
+            raise sheet.Refusal(5, literal.place + len(literal.digits))
+
+
+def schedule_with_literals_last(inputs, squares, ends, text):
+    """11 before 5."""
+    formula.test_inputs(inputs, squares, ends)
+    tree = formula.tree_of(text, inputs)
+    steps = []
+    formula.add_steps(tree, inputs, steps)
+    if not 1 <= len(steps) <= sheet.STEPS_LIMIT:
+        raise sheet.Refusal(11, 0)
+    formula.test_literals(tree)
+    return sheet.schedule(squares, ends[:inputs], steps)
+
+
+def schedule_with_text_first(inputs, squares, ends, text):
+    """10 before 3 and 4."""
+    formula.tree_of(text, min(max(inputs, 0), sheet.INPUTS_LIMIT))
+    return REAL_FORMULA["schedule_of"](inputs, squares, ends, text)
+
+
+def schedule_of_steps(least, most):
+    """Another number of steps is accepted."""
+
+    def schedule_of(inputs, squares, ends, text):
+        formula.test_inputs(inputs, squares, ends)
+        tree = formula.tree_of(text, inputs)
+        formula.test_literals(tree)
+        steps = []
+        formula.add_steps(tree, inputs, steps)
+        if not least <= len(steps) <= most:
+            raise sheet.Refusal(11, 0)
+        return sheet.schedule(squares, ends[:inputs], steps)
+
+    return {"schedule_of": schedule_of}
+
+
+def schedule_with_all_ends(inputs, squares, ends, text):
+    """The ends beyond the inputs are kept."""
+    return REAL_FORMULA["schedule_of"](inputs, squares, ends, text)._replace(ends=tuple(ends))
+
+
+def inputs_with_all_ends(inputs, squares, ends):
+    """The ends beyond the inputs are tested."""
+    REAL_FORMULA["test_inputs"](inputs, squares, ends)
+    REAL_FORMULA["test_inputs"](sheet.INPUTS_LIMIT, squares, ends)
+
+
+REAL_FORMULA = {
+    name: getattr(formula, name) for name in ("tree_of", "add_steps", "schedule_of", "test_inputs")
+}
+
+OTHER_FORMULAS = {
+    "equal rank from the right": {"Reader": FromTheRight},
+    "products and sums of one rank": {"Reader": OneRank},
+    "sums before products": {"Reader": SumsFirst},
+    "the right operand's steps first": {"add_steps": right_steps_first},
+    "a subtraction with its operands exchanged": exchanged(sheet.SUBTRACT),
+    "a product with its operands exchanged": exchanged(sheet.MULTIPLY),
+    "17 brackets are read": {"NESTING_LIMIT": formula.NESTING_LIMIT + 1},
+    "15 brackets at most": {"NESTING_LIMIT": formula.NESTING_LIMIT - 1},
+    "201 bytes are read": {"LENGTH_LIMIT": formula.LENGTH_LIMIT + 1},
+    "199 bytes at most": {"LENGTH_LIMIT": formula.LENGTH_LIMIT - 1},
+    "the place of 10 one further": {"Reader": WithPlaceMoved},
+    "the place of 10 one before": {"Reader": WithPlaceBefore},
+    "the place of 10 an open bracket": {"Reader": WithPlaceOfBracket},
+    "the place of 10 behind the first 200 bytes": {"tree_of": place_beyond_200},
+    "the length before every byte": {"tree_of": length_first},
+    "a literal one beyond the limit": {"LITERAL_LIMIT": formula.LITERAL_LIMIT + 1},
+    "literals one less far": {"LITERAL_LIMIT": formula.LITERAL_LIMIT - 1},
+    "literals that wrap at 2^32": literals_that_wrap(32),
+    "literals that wrap at 2^64": literals_that_wrap(64),
+    "a leading zero in a literal": {"LITERAL": re.compile(rb"[0-9]+")},
+    "no literal 0": {"LITERAL": re.compile(rb"[1-9][0-9]*")},
+    "literals of ten digits at most": {"LITERAL": re.compile(rb"0|[1-9][0-9]{0,9}")},
+    "a minus before a literal": {"Reader": WithMinus},
+    "the place of 5 that of the last literal": {"test_literals": place_of_last_literal},
+    "the place of 5 behind the literal": {"test_literals": place_behind_literal},
+    "letters beyond the inputs": {"Reader": WithEveryLetter},
+    "capital letters": {"Reader": WithCapitals},
+    "blanks passed over": {"Reader": WithBlanks},
+    "bytes behind a formula": {"Reader": WithoutEndOfText},
+    "11 before 5": {"schedule_of": schedule_with_literals_last},
+    "10 before 3 and 4": {"schedule_of": schedule_with_text_first},
+    "no step accepted": schedule_of_steps(0, sheet.STEPS_LIMIT),
+    "a formula of 25 steps": schedule_of_steps(1, sheet.STEPS_LIMIT + 1),
+    "a formula of 23 steps at most": schedule_of_steps(1, sheet.STEPS_LIMIT - 1),
+    "ends kept beyond the inputs": {"schedule_of": schedule_with_all_ends},
+    "ends tested beyond the inputs": {"test_inputs": inputs_with_all_ends},
+}
+
+
 @contextlib.contextmanager
 def spoilt(name):
     """The module that the name's group is about, with the parts named replaced."""
     groups = [(rows, UNSOUND), (rows, OTHER_NUMBERS), (sheet, OTHER_SHEETS)]
-    groups += [(evaluation, OTHER_CALLS), (listing, OTHER_LISTINGS)]
+    groups += [(evaluation, OTHER_CALLS), (listing, OTHER_LISTINGS), (formula, OTHER_FORMULAS)]
     module, parts = next((module, group[name]) for module, group in groups if name in group)
     with unittest.mock.patch.multiple(module, **parts):
         yield

@@ -10,6 +10,7 @@ import pathlib
 import sys
 
 import bench_evaluate
+import formula_program
 import library_calls
 import listing
 import row_cases
@@ -20,6 +21,7 @@ MAKERS = {
     "sheet_cases": sheet_cases.files,
     "row_examples": row_cases.files,
     "ranges": listing.files,
+    "formula": formula_program.files,
     "library_calls": library_calls.files,
     "bench_evaluate": bench_evaluate.files,
 }

@@ -5,15 +5,21 @@
 """
 
 import collections
+import itertools
 import pathlib
 import random
+import re
 import subprocess
 import sys
 import tempfile
 import unittest
+import unittest.mock
 
 import demand3
 import evaluation
+import formula
+import formula_again
+import formula_cases
 import generate
 import library_calls
 import listing
@@ -321,6 +327,166 @@ class Reading(unittest.TestCase):
         self.assertEqual(*outs)
 
 
+def bracketed(tree) -> bytes:
+    """A text of a tree with brackets around every sign's part."""
+    if isinstance(tree, formula.Letter):
+        return formula.LETTERS[tree.input - 1 : tree.input]
+    if isinstance(tree, formula.Literal):
+        return tree.digits
+    return b"(" + bracketed(tree.left) + tree.sign + bracketed(tree.right) + b")"
+
+
+class Formulas(unittest.TestCase):
+    """Formulas, against samples of another implementation and against second definitions."""
+
+    nesting = formula.NESTING_LIMIT
+
+    def test_the_samples(self):
+        count = 0
+        for case, refusal, expected in formula_cases.sample_cases():
+            answer = formula.read(*case)
+            counts, ends, steps = answer.schedule
+            self.assertEqual(answer[:2], refusal, case)
+            self.assertEqual(list(counts), expected["counts"], case)
+            self.assertEqual([list(end) for end in ends[: counts.inputs]], expected["ends"], case)
+            self.assertEqual([list(step) for step in steps[: counts.steps]], expected["steps"], case)
+            count += 1
+        self.assertEqual(count, 300)
+
+    def place(self, text, inputs):
+        """The place of 10, or 0."""
+        try:
+            formula.tree_of(text, inputs)
+        except sheet.Refusal as refusal:
+            return refusal.place
+        return 0
+
+    def test_every_short_text(self):
+        """Brackets nest to 2 here, so that three bytes more close every beginning."""
+        alphabet, longest = b"a01*()", 5
+        with unittest.mock.patch.object(formula, "NESTING_LIMIT", 2):
+            beginnings = [b""]
+            for _ in range(longest):
+                texts = [text + bytes([byte]) for text in beginnings for byte in alphabet]
+                beginnings = []
+                for text in texts:
+                    if formula_again.begins_by_search(text, 1, 2, alphabet, 3):
+                        beginnings.append(text)
+                        whole = formula_again.is_formula(text, 1, 2)
+                        self.assertEqual(self.place(text, 1), 0 if whole else len(text) + 1)
+                    else:
+                        self.assertEqual(self.place(text, 1), len(text))
+                        self.assertEqual(self.place(text + b"a)", 1), len(text))
+                    again = formula_again.begins_formula(text, 1, 2)
+                    self.assertEqual(again, text in beginnings[-1:])
+
+    def test_every_byte_behind_every_kind_of_beginning(self):
+        for start in (b"", b"a", b"0", b"7", b"(", b"(b", b"(0", b"(31", b"(a)", b"a+", b"(a/", b"(" * 16):
+            for byte in range(256):
+                text = start + bytes([byte])
+                begins = formula_again.begins_formula(text, 2, self.nesting)
+                whole = formula_again.is_formula(text, 2, self.nesting)
+                expected = len(text) if not begins else 0 if whole else len(text) + 1
+                self.assertEqual(self.place(text, 2), expected, text)
+
+    def test_the_place_of_10_in_long_texts(self):
+        """The bytes before the place begin a formula, and those up to it do not; or the text is cut."""
+        begins = formula_again.begins_formula
+        texts = (formula_cases.long_formulas(), formula_cases.any_formulas("places", 30, 30))
+        for inputs, _, _, text in itertools.chain(*texts):
+            place = self.place(text, inputs)
+            if place == 0:
+                self.assertTrue(formula_again.is_formula(text, inputs, self.nesting), text)
+                self.assertLessEqual(len(text), 200)
+                continue
+            self.assertLessEqual(place, 201)
+            self.assertTrue(begins(text[: place - 1], inputs, self.nesting), text)
+            if place == 201:
+                self.assertTrue(len(text) > 200 or not formula_again.is_formula(text, inputs, self.nesting))
+            elif place <= len(text):
+                self.assertFalse(begins(text[:place], inputs, self.nesting), text)
+            else:
+                self.assertEqual(place, len(text) + 1)
+                self.assertFalse(formula_again.is_formula(text, inputs, self.nesting), text)
+
+    def accepted(self):
+        for case in itertools.chain(
+            formula_cases.short_formulas(), formula_cases.deep_formulas(),
+            formula_cases.counted_formulas(), formula_cases.literal_formulas(),
+            formula_cases.any_formulas("accepted", 30, 50),
+        ):
+            answer = formula.read(*case)
+            if answer.number == 0:
+                yield case, answer.schedule
+
+    def test_python_reads_the_same_steps(self):
+        for (inputs, squares, ends, text), schedule in self.accepted():
+            steps = formula_again.python_steps(text, inputs)
+            self.assertEqual(schedule, sheet.schedule(squares, ends[:inputs], steps), text)
+
+    def test_5_and_11_as_python_reads(self):
+        for inputs, squares, ends, text in formula_cases.any_formulas("5 and 11", 20, 50):
+            number, place, _ = formula.read(inputs, squares, ends, text)
+            if number in (0, 5, 11):
+                steps = formula_again.python_steps(text, inputs)
+                beyond = [step[3] for step in steps if step[0] == 1 and step[3] > 2**28]
+                self.assertEqual(number == 5, bool(beyond), text)
+                if beyond:
+                    self.assertTrue(text[place - 1 :].startswith(b"%d" % beyond[0]))
+                    self.assertTrue(all(int(part) <= 2**28 for part in re.findall(rb"[0-9]+", text[: place - 1])))
+                else:
+                    self.assertEqual(number == 11, not 1 <= len(steps) <= 24, text)
+
+    def test_the_last_row_has_the_value_of_the_formula(self):
+        rng = random.Random("values")
+        worked = 0
+        for (inputs, _, _, text), schedule in self.accepted():
+            given = [demand3.Fraction(rng.randint(-9, 9), rng.randint(1, 5)) for _ in range(inputs)]
+            try:
+                exact = formula.value(formula.tree_of(text, inputs), given)
+            except ZeroDivisionError:
+                with self.assertRaises(ZeroDivisionError):
+                    formula_again.python_value(text, given)
+                with self.assertRaises(demand3.ZeroDivisor):
+                    demand3.exact_values(schedule, given)
+                continue
+            self.assertEqual(formula_again.python_value(text, given), exact, text)
+            self.assertEqual(demand3.exact_values(schedule, given)[-1], exact, text)
+            worked += 1
+        self.assertGreater(worked, 500)
+
+    def test_one_reading(self):
+        """A tree's text with all brackets is read as the same tree."""
+        limits = {"NESTING_LIMIT": 1000, "LENGTH_LIMIT": 100_000}
+        for (inputs, _, _, text), schedule in self.accepted():
+            tree = formula.tree_of(text, inputs)
+            with unittest.mock.patch.multiple(formula, **limits):
+                again = formula.tree_of(bracketed(tree), inputs)
+            steps, steps_again = [], []
+            formula.add_steps(tree, inputs, steps)
+            formula.add_steps(again, inputs, steps_again)
+            self.assertEqual(steps, steps_again)
+
+    def test_accepted_schedules_pass_the_tests_of_a_sheet(self):
+        for _, schedule in self.accepted():
+            sheet.test(schedule)
+            self.assertEqual(sheet.read(sheet.text(schedule)), (0, 0, schedule))
+
+    def test_order_of_causes(self):
+        good, wrong = [(0, 1), (0, 1)], [(0, 1), (1, 0)]
+        for inputs, squares, ends, text, expected in [
+            (2, 3, wrong, b"?", (3, 2)),
+            (2, 2, wrong, b"?", (4, 5)),
+            (1, 1, wrong, b"b", (10, 1)),
+            (2, 0, good, b"a+268435457+", (10, 13)),
+            (2, 0, good, b"a+268435457" + b"+a" * 30, (5, 3)),
+            (2, 0, good, b"a+268435456" + b"+a" * 22, (0, 0)),
+            (2, 0, good, b"a+268435456" + b"+a" * 23, (11, 0)),
+            (2, 0, good, b"b", (11, 0)),
+        ]:
+            self.assertEqual(formula.read(inputs, squares, ends, text)[:2], expected, text)
+
+
 class Evaluating(unittest.TestCase):
     def test_writes_its_rows_and_no_others(self):
         handed = sheet.read(listing.EXAMPLE_SHEET).schedule
@@ -479,7 +645,10 @@ class LibraryCalls(unittest.TestCase):
             if call[0] == library_calls.LIST:
                 self.assertLessEqual(len(call[1]), library_calls.SHEET_ROOM)
                 self.assertLessEqual(call[2], library_calls.LIST_ROOM)
-            behind = len(call[1]) + 1 if call[0] == library_calls.LIST else 0
+            if call[0] == library_calls.FORMULA:
+                self.assertLessEqual(len(call[1]), library_calls.FORMULA_ROOM)
+            with_bytes = call[0] in (library_calls.LIST, library_calls.FORMULA)
+            behind = len(call[1]) + 1 if with_bytes else 0
             self.assertEqual(len(library_calls.encoded(call)), 17 * len(call) + behind)
 
     def test_every_number_occurs(self):
@@ -487,30 +656,45 @@ class LibraryCalls(unittest.TestCase):
         fields = [line.split() for line in lines]
         seen = {
             word: {int(field[1]) for field in fields if field[:1] == [word]}
-            for word in (b"evaluate", b"range", b"same", b"write", b"list")
+            for word in (b"evaluate", b"range", b"same", b"write", b"list", b"formula")
         }
         self.assertEqual(seen[b"evaluate"], {0, 3, 4, 5, 6, 7, 8})
         self.assertEqual(seen[b"range"], {0, 6, 8, 9})
         self.assertEqual(seen[b"same"], {0, 6, 8, 9})
         self.assertEqual(seen[b"write"], {0, 3, 4, 5, 8})
         self.assertEqual(seen[b"list"], {0, 8})
+        self.assertEqual(seen[b"formula"], {0, 3, 4, 5, 10, 11})
         texts = [after for line, after in zip(fields, fields[1:]) if line == [b"refused", b"place"]]
         self.assertEqual({int(number) for number, _ in texts}, set(range(1, 9)))
 
     def test_the_calls_tell_every_fault(self):
-        """Listings tell the faults of listing, the other calls those of evaluation."""
+        """Listings tell the faults of listing, formulas those of formula, the other calls those of
+        evaluation."""
         every = library_calls.calls()
         of_listing = (library_calls.TABLE, library_calls.LIST)
+        of_formula = (library_calls.INPUTS, library_calls.FORMULA)
         listings = [call for call in every if call[0] in of_listing]
-        others = [call for call in every if call[0] != library_calls.LIST]
+        formulas = [call for call in every if call[0] in of_formula]
+        others = [call for call in every if call[0] not in (library_calls.LIST, *of_formula)]
         self.assert_told(others, spoilt.OTHER_CALLS)
         self.assert_told(listings, spoilt.OTHER_LISTINGS)
+        self.assert_told(formulas, spoilt.OTHER_FORMULAS)
 
     def assert_told(self, calls, names):
         expected = library_calls.expected(calls)
         for name in names:
             with self.subTest(name), spoilt.spoilt(name):
                 self.assertFalse(library_calls.expected(calls) == expected)
+
+    def test_the_samples_of_formulas_are_among_the_calls(self):
+        block, made = None, set()
+        for code, *arguments in library_calls.calls():
+            if code == library_calls.INPUTS:
+                block = tuple(arguments)
+            elif code == library_calls.FORMULA:
+                made.add((*block, *arguments))
+        for inputs, squares, ends, text in formula_cases.samples():
+            self.assertIn((inputs, squares, *itertools.chain(*ends), text), made)
 
     def test_a_schedule_comes_back_from_its_numbers(self):
         numbers = library_calls.flat(library_calls.GOOD)

@@ -26,6 +26,7 @@ ROOT = pathlib.Path(__file__).resolve().parent.parent
 sys.path.insert(0, str(ROOT / "checker"))
 
 import evaluation
+import formula
 import listing
 import rows
 import sheet
@@ -36,7 +37,7 @@ DOCUMENTS = [MANUAL, "README.md", "examples/README.md"]
 SOURCES = ("*.antt", "*.rt", "*.py", "*.sh", "*.md", "*.rs", "*.edit")
 
 # Commands that build, and the gate itself, which runs this test: they are shown without what they print. Another one of the toolchain or the gate fails.
-NOT_RUN = {"rt check ranges", ".ci/run", "rt dev NAME"}
+NOT_RUN = {"rt check ranges", "rt check formula", ".ci/run", "rt dev NAME"}
 LONG = ("rt ", ".ci/", "bench/")
 # How a code span begins that is a command.
 COMMAND = re.compile(r"(rt|python3|bash|target/bin/\S+) |\.ci/|bench/run\.sh")
@@ -314,6 +315,8 @@ SIZES = {
     "bytes of a sheet that is read": lambda: sheet.SHEET_LIMIT,
     "bytes of the longest sheet that is accepted": longest_accepted,
     "bytes to lend for the text of `listing::list`": lambda: 4_096,
+    "bytes of a formula": lambda: formula.LENGTH_LIMIT,
+    "brackets of a formula inside each other": lambda: formula.NESTING_LIMIT,
     "greatest end, and greatest constant": lambda: sheet.END_LIMIT,
     "greatest span": lambda: rows.SPAN_LIMIT,
     "bytes of stack for one `evaluate`, beside the caller's table and schedule": stack_measured,
@@ -332,12 +335,29 @@ def check_example_sheet(name, prints, why) -> None:
     expect(f"examples/README.md: {name}", prints, f"`{' '.join(lines[0])}`" if refused else "the listing")
 
 
+def check_example_formula(name, prints, why) -> None:
+    """A formula of examples/README.md makes its sheet, or is refused."""
+    path = ROOT / "examples" / f"{name.strip('`')}.formula"
+    words = path.read_text().split() if path.is_file() else []
+    lines = subprocess.run([ROOT / "target/bin/formula", *words], stdout=subprocess.PIPE).stdout.decode().splitlines()
+    refused = len(lines) == 2 and lines[0] == "refused place"
+    expect(f"examples/README.md: {name}", prints, f"`{lines[1]}`" if refused else "the sheet")
+
+
+def check_formula_row(row, part, step) -> None:
+    """A row of the manual's formula over three inputs is made by this step."""
+    made = formula.read(3, 0, [(0, 0)] * 3, b"(a+8192)*b/c").schedule.steps[int(row) - 4]
+    expect(f"{MANUAL}: row {row} of the formula", step.strip("`"), " ".join(map(str, made)))
+
+
 TABLES = [
     (MANUAL, "| example | squares | ends | steps | shown | centre | symbol 1 | pair (1,1) | own | low | high |", check_example, 15),
     (MANUAL, "| field | from | to |", check_field, len(FIELDS)),
     (MANUAL, "| pairs | numbers |", check_pairs, 6),
     (MANUAL, "| what | how much |", check_size, len(SIZES)),
+    (MANUAL, "| row | is the part | step |", check_formula_row, 5),
     ("examples/README.md", "| sheet | prints | why |", check_example_sheet, len([*ROOT.glob("examples/*.sheet")])),
+    ("examples/README.md", "| formula | prints | why |", check_example_formula, len([*ROOT.glob("examples/*.formula")])),
 ]
 
 

@@ -1,5 +1,5 @@
 //! Schedule sheets: reading, and the tests 3, 4 and 5.
-const END_LIMIT: i64 = 268_435_456;
+pub const END_LIMIT: i64 = 268_435_456;
 
 pub struct Refusal {
     pub number: u64,
@@ -29,7 +29,7 @@ pub struct Schedule {
     pub step: [Step; 24],
 }
 
-fn counts_pass(inputs: i64, squares: i64, steps: i64) -> bool {
+pub fn counts_pass(inputs: i64, squares: i64, steps: i64) -> bool {
     (1..=6).contains(&inputs) && (0..=inputs).contains(&squares) && (1..=24).contains(&steps)
 }
 
@@ -37,7 +37,7 @@ fn within_limit(z: i64) -> bool {
     (-END_LIMIT..=END_LIMIT).contains(&z)
 }
 
-fn end_passes(low: i64, high: i64) -> bool {
+pub fn end_passes(low: i64, high: i64) -> bool {
     within_limit(low) && within_limit(high) && low <= high
 }
 
@@ -104,7 +104,7 @@ impl<'a> Lines<'a> {
     }
 }
 
-fn number(field: &[u8]) -> Option<i64> {
+pub fn number(field: &[u8]) -> Option<i64> {
     let digits = field.strip_prefix(b"-").unwrap_or(field);
     let minus = digits.len() < field.len();
     if digits.is_empty() || digits.len() > 10 || (digits[0] == b'0' && (minus || digits.len() > 1)) {

@@ -1,12 +1,14 @@
 // Makes the library calls that its data file lists, on hostile arguments too, and prints what each answers and leaves.
 //
 // The file `calls` has fields of 17 bytes: 16 hexadecimal digits, and a byte that means nothing. A call is a code and its arguments, each one
-// field; a sheet that is to be listed stands behind its call, byte for byte. `checker/library_calls.py` says what each code is and what it prints; it
-// makes the file and the same lines.
+// field; a sheet that is to be listed, and a formula that is to be read, stands behind its call, byte for byte. `checker/library_calls.py` says what
+// each code is and what it prints; it makes the file and the same lines.
+use formulas::InputBlock;
 use libc::STDOUT_FILENO;
 use sheet::End;
 use sheet::MAX_INPUTS;
 use sheet::MAX_STEPS;
+use sheet::ReadAnswer;
 use sheet::Refusal;
 use sheet::Schedule;
 use sheet::Step;
@@ -21,8 +23,10 @@ const TABLE_ROOM: usize = 1612;
 const WRITE_ROOM: usize = 700;
 
 const LIST_ROOM: usize = 4200;
-// The most bytes of a sheet that is listed.
+// The most bytes of a sheet that is listed, and of a formula that is read.
 const SHEET_ROOM: usize = 1100;
+
+const FORMULA_ROOM: usize = 700;
 
 const FIELD: usize = 17;
 
@@ -141,6 +145,21 @@ fn next_schedule(fd: i32) -> Schedule {
     }
 }
 
+// The schedule with other inputs, squares and ends.
+fn next_inputs(fd: i32, schedule: Schedule) -> Schedule {
+    let inputs = next_signed(fd);
+    let squares = next_signed(fd);
+    let ends = next_ends(fd);
+    let step = schedule.step;
+    Schedule {
+        inputs,
+        squares,
+        steps: schedule.steps,
+        ends,
+        step,
+    }
+}
+
 // ---- printing
 
 fn print_unsigned(n: u64) {
@@ -186,6 +205,59 @@ fn print_written(answer: WriteAnswer, bytes: &[u8]) {
     print_line_end();
     io::write_all(STDOUT_FILENO, bytes);
     print_line_end();
+}
+
+fn print_end(number: usize, end: End) {
+    io::write_all(STDOUT_FILENO, b" end");
+    print_unsigned(number as u64);
+    print_signed(end.low);
+    print_signed(end.high);
+}
+
+fn print_ends(ends: [End; MAX_INPUTS]) {
+    for i in 0..MAX_INPUTS {
+        let end = ends[i];
+        if end.low != 0 || end.high != 0 {
+            print_end(i + 1, end);
+        }
+    }
+}
+
+fn print_step(number: usize, step: Step) {
+    io::write_all(STDOUT_FILENO, b" step");
+    print_unsigned(number as u64);
+    print_signed(step.code);
+    print_signed(step.first);
+    print_signed(step.second);
+    print_signed(step.value);
+}
+
+fn print_steps(steps: [Step; MAX_STEPS]) {
+    for j in 0..MAX_STEPS {
+        let step = steps[j];
+        if step.code != 0 || step.first != 0 || step.second != 0 || step.value != 0 {
+            print_step(j + 1, step);
+        }
+    }
+}
+
+// A schedule: its counts, and every end and step that is not all zeros, beyond the counts too.
+fn print_schedule(schedule: Schedule) {
+    print_signed(schedule.inputs);
+    print_signed(schedule.squares);
+    print_signed(schedule.steps);
+    let ends = schedule.ends;
+    print_ends(ends);
+    let step = schedule.step;
+    print_steps(step);
+    print_line_end();
+}
+
+fn print_read(answer: ReadAnswer) {
+    let refusal = answer.refusal;
+    print_refusal(refusal);
+    let schedule = answer.schedule;
+    print_schedule(schedule);
 }
 
 // ---- the calls, on the part of the table that is lent
@@ -279,6 +351,29 @@ fn list_fresh(fd: i32, table: &mut [i64]) {
     list_front(fd, &mut sheet, table, &mut text);
 }
 
+fn formula(schedule: Schedule, text: &[u8]) {
+    let ends = schedule.ends;
+    let block = InputBlock {
+        inputs: schedule.inputs,
+        squares: schedule.squares,
+        ends,
+    };
+    let answer = formulas::read(block, text);
+    io::write_all(STDOUT_FILENO, b"formula");
+    print_read(answer);
+}
+
+fn formula_front(fd: i32, schedule: Schedule, text: &mut [u8]) {
+    let length = next_at_most(fd, text.len());
+    next_bytes(fd, &mut text[0..length]);
+    formula(schedule, &text[0..length]);
+}
+
+fn formula_fresh(fd: i32, schedule: Schedule) {
+    let mut text = [0u8; FORMULA_ROOM];
+    formula_front(fd, schedule, &mut text);
+}
+
 // Makes the call of a code on the part of the table that is lent.
 fn call(fd: i32, code: u64, schedule: Schedule, table: &mut [i64]) {
     match code {
@@ -289,6 +384,7 @@ fn call(fd: i32, code: u64, schedule: Schedule, table: &mut [i64]) {
         7 => same(fd, &*table),
         8 => write_fresh(fd, schedule),
         9 => list_fresh(fd, table),
+        11 => formula_fresh(fd, schedule),
         _ => {}
     }
 }
@@ -325,6 +421,7 @@ fn step(fd: i32, table: &mut [i64], state: State) -> State
             going_on(length, schedule)
         }
         3 => going_on(length, next_schedule(fd)),
+        10 => going_on(length, next_inputs(fd, schedule)),
         _ => {
             call(fd, code, schedule, &mut table[0..length]);
             going_on(length, schedule)

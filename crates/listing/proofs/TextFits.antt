@@ -31,7 +31,7 @@ listing-fits : (table : List ℤ) (count : ℕ) → count ≤ symbols → length
 unfolding listing
 listing-fits table count h = omega (arith, length-append columnNames (texts count 1 (rowText table count)), rows-short table count)
 
-refusal-fits : (r : Refusal) → length (refusalText r) ≤ textRoom
+pub refusal-fits : (r : Refusal) → length (refusalText r) ≤ textRoom
 unfolding refusalText
 refusal-fits r =
     let numbers : List ℤ = pos (r .number) ∷ pos (r .place) ∷ [] in

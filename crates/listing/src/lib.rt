@@ -2,9 +2,11 @@
 mod rows; // rows.rt: the line of a row
 mod texts; // texts.rt: the listing of a table's rows, and a refusal
 
+// A refusal as it is printed, for programs that print others.
 use sheet::Refusal;
 use sheet::Schedule;
 use sheet::WriteAnswer;
+pub use texts::put_refusal;
 ghost use mathlib.Core.Path.{_≡_};
 ghost use Prim.Native.Nat.{_≤_};
 ghost use lib.ListN.{length};
