@@ -1,6 +1,6 @@
 -- The steps that were built, read back from their numbers, are those of the formula.
 use mathlib.Core.Path.{_≡_, refl, sym, ap, _∙_}
-use mathlib.Core.List.{List, [], _∷_, _++_, append-nil}
+use mathlib.Core.List.{List, [], _∷_, _++_}
 use Prim.Native.Nat.{ℕ, zero, suc, _+_, _*_, _≤_}
 use native.Mathlib.Decide.{decLt}
 use native.Mathlib.Omega.{arith}
@@ -12,20 +12,8 @@ use Rattle.sheet.specs.Lines.{item, zeroStep}
 use Rattle.sheet.specs.Same.{upTo}
 use Rattle.sheet.specs.declared.Step.{Step}
 use Rattle.sheet.proofs.Trimmed.{up-to-within, up-to-beyond}
-use Rattle.formulas.specs.Limits.{maxNesting}
-use Rattle.formulas.specs.Grammar.{Tree, Formula}
-use Rattle.formulas.specs.Steps.{LiteralsWithin}
-use Rattle.formulas.specs.Built.{allNumbers, stepIn, stepsFrom, Stands, numbersRoom}
+use Rattle.formulas.specs.Built.{allNumbers, stepIn, stepsFrom, numbersRoom}
 use Rattle.formulas.proofs.StepNumbers.{length-numbers}
-
--- a formula stands at the start of its own text
-pub formula-stands : (inputs : ℕ) (s : List ℕ) (t : Tree) → Formula inputs s t → LiteralsWithin t → Stands s inputs 2 maxNesting 0 s t []
-formula-stands inputs s t f l = record {
-  text = f;
-  literals = l;
-  here = sym (append-nil s);
-  follows = record { no-digit = omega arith; no-sign = λ r e. absurd (omega arith) };
-}
 
 zeros-item : (n k : ℕ) → item (replicate n (pos 0)) k ≡ pos 0
 zeros-item zero k = refl

@@ -1,5 +1,6 @@
 -- A text of the grammar is read as its tree.
 use mathlib.Core.Path.{_≡_, refl, sym, ap, _∙_}
+use mathlib.Core.Logic.{inr}
 use mathlib.Core.List.{List, [], _∷_, _++_, append-assoc, append-nil}
 use Prim.Native.Nat.{ℕ, zero, suc, _+_, _≤_, _<_}
 use native.Mathlib.Nat.{add-suc}
@@ -11,37 +12,13 @@ use lib.ListN.{length, getD}
 use Rattle.sheet.specs.Number.{digitOf}
 use Rattle.formulas.specs.Limits.{maxNesting}
 use Rattle.formulas.specs.Grammar.{Tree, letter, literal, binary, byteOf, rankOf, Numeral, Text, letter-text, literal-text, brackets, alone, joined, Formula}
-use Rattle.formulas.specs.Reading.{tokenOf, Open, fresh, State, wanting, counting, holding, afterCounting, afterHolding, openBy, next, tree, follow, reading, start}
+use Rattle.formulas.specs.Reading.{tokenOf, Open, fresh, State, wanting, counting, holding, openBy, next, tree, follow, reading, start}
 use Rattle.formulas.specs.declared.Sign.{Sign}
-use Rattle.formulas.specs.declared.Sign.the-variants.{Plus, Minus, Times, Over}
 use Rattle.formulas.specs.declared.Token.{Token}
-use Rattle.formulas.specs.declared.Token.the-variants.{Digit, Letter, Operator, Opening, Closing, Other}
 use Rattle.formulas.proofs.Numerals.{through-digits}
+use Rattle.formulas.proofs.Positions.{open-product, open-sum, literal-ends}
 use Rattle.formulas.proofs.Places.{end-joined, end-brackets}
-use Rattle.formulas.proofs.ByteTokens.{sign-no-digit, NoDigit, no-digit, token-digit, token-letter, token-sign, token-opening, token-closing}
-
--- what stands open behind a sign, by its rank
-open-product : (g : Sign) (f : Tree → Tree) (p : Tree) → rankOf g ≡ 1 → openBy g f p ≡ record { sum = f; product = binary g p }
-open-product Plus f p e = absurd (omega arith)
-open-product Minus f p e = absurd (omega arith)
-open-product Times f p e = refl
-open-product Over f p e = refl
-
-open-sum : (g : Sign) (f : Tree → Tree) (p : Tree) → rankOf g ≡ 2 → openBy g f p ≡ record { sum = binary g (f p); product = λ t. t }
-open-sum Plus f p e = refl
-open-sum Minus f p e = refl
-open-sum Times f p e = absurd (omega arith)
-open-sum Over f p e = absurd (omega arith)
-
--- behind a literal, what is no digit does as behind any operand
-literal-next : (o : Open) (around : List Open) (v : ℕ) (k : Token) → NoDigit k
-    → afterCounting o around v k ≡ afterHolding (o .sum) around (o .product (literal v)) k
-literal-next o around v (Digit d) h = absurd h
-literal-next o around v (Letter i) h = refl
-literal-next o around v (Operator g) h = refl
-literal-next o around v Opening h = refl
-literal-next o around v Closing h = refl
-literal-next o around v Other h = refl
+use Rattle.formulas.proofs.ByteTokens.{sign-no-digit, token-digit, token-letter, token-sign, token-opening, token-closing}
 
 module _ (inputs : ℕ) where
   reads : (place : ℕ) (u : State) (b : ℕ) (bs : List ℕ) {k : Token} → tokenOf inputs b ≡ k
@@ -58,14 +35,6 @@ module _ (inputs : ℕ) where
       (λ n v d rest h l.
       rw add-suc (reads (place + n) (counting o around v) (48 + d) rest (token-digit inputs d l) ∙ rw (ne-eqb v 0 (omega arith))))
       x
-
-  -- .. and is then an operand
-  literal-ends : (place : ℕ) (o : Open) (around : List Open) (v : ℕ) (rest : List ℕ) → 10 ≤ digitOf (getD rest 0 0)
-      → reading inputs place (counting o around v) rest ≡ reading inputs place (holding (o .sum) around (o .product (literal v))) rest
-  unfolding reading
-  literal-ends place o around v [] h = refl
-  literal-ends place o around v (b ∷ bs) h =
-      ap (λ x. follow place x (λ w. reading inputs (suc place) w bs)) (literal-next o around v (tokenOf inputs b) (no-digit inputs b h))
 
   -- How a text of a rank is read where no digit follows: an operand behind anything open, a product behind an open sum, a sum where nothing is open.
   abbrev Runs : (rank nesting : ℕ) → List ℕ → Tree → Type 0
@@ -87,7 +56,7 @@ module _ (inputs : ℕ) where
 
   literal-runs : (k v : ℕ) (s : List ℕ) → Numeral s v → Runs 0 k s (literal v)
   literal-runs k v s n o around place rest fits behind =
-      digits-read n o around place rest ∙ literal-ends (place + length s) o around v rest behind
+      digits-read n o around place rest ∙ literal-ends inputs (place + length s) o around v rest (inr behind)
 
   brackets-run : (k : ℕ) (s : List ℕ) (t : Tree) → Runs 2 k s t → Runs 0 (suc k) (40 ∷ (s ++ (41 ∷ []))) t
   brackets-run k s t run o around place rest fits behind =

@@ -53,7 +53,7 @@ digits-small v p (b ∷ bs) h =
     (λ e. h)
 
 -- its value is that of the digits in front, or capped
-digits-value : (v p : ℕ) (bs : List ℕ) → digitsFrom (capped v) p bs .value ≡ capped (frontValue v bs)
+pub digits-value : (v p : ℕ) (bs : List ℕ) → digitsFrom (capped v) p bs .value ≡ capped (frontValue v bs)
 unfolding digitsFrom frontValue
 digits-value v p [] = refl
 digits-value v p (b ∷ bs) =
@@ -70,7 +70,7 @@ beyond-capped v = pick-elim (λ n. endLimit < n → endLimit < v) (ltb endLimit 
 within-capped : (v : ℕ) → capped v ≤ endLimit → v ≤ endLimit
 within-capped v = pick-elim (λ n. n ≤ endLimit → v ≤ endLimit) (ltb endLimit v) _ _ (λ e h. absurd (omega arith)) (λ e h. ltb-false endLimit v e)
 
-drop-next : (s : List ℕ) (p b : ℕ) (bs : List ℕ) → drop p s ≡ b ∷ bs → drop (suc p) s ≡ bs
+pub drop-next : (s : List ℕ) (p b : ℕ) (bs : List ℕ) → drop p s ≡ b ∷ bs → drop (suc p) s ≡ bs
 drop-next s p b bs e = rw (← add-one p, ← drop-drop 1 p s, e)
 
 -- behind a digit nothing is looked for before the literal's end
@@ -108,6 +108,3 @@ module _ (s : List ℕ) (i : ℕ) (h : i < length s) where
   pub beyond-other : 10 ≤ digitOf (getD s i 0) → firstBeyond (suc i) false (drop i s) ≡ firstBeyond (suc (suc i)) false (drop (suc i) s)
   unfolding firstBeyond
   beyond-other d = rw (drop-cons s i 0 h) (simp (le-ltb _ _ d))
-
-  pub beyond-longer : digitOf (getD s i 0) < 10 → i < digitsFrom 0 i (drop i s) .next
-  beyond-longer d = rw (digits-more s i 0 h d) (omega (arith, digits-within (capped (0 * 10 + digitOf (getD s i 0))) (i + 1) (drop (i + 1) s) .0))

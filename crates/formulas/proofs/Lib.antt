@@ -1,9 +1,9 @@
 pub mod ByteTokens
 pub mod Places
 pub mod Numerals
+pub mod Positions
 pub mod Complete
 pub mod OneReading
-pub mod StepsShort
 pub mod LiteralsWithin
 pub mod Sound
 pub mod Begun
@@ -16,10 +16,11 @@ pub mod StepLaws
 pub mod SchedulePasses
 pub mod SameValue
 pub mod DigitRuns
+pub mod LiteralReads
 pub mod StepNumbers
-pub mod Chains
-pub mod Operands
+pub mod SignTurns
+pub mod OperandReads
+pub mod FrontReads
 pub mod BuiltSteps
 pub mod ReadAnswers
-pub mod Shapes
 pub mod Examples

@@ -3,7 +3,7 @@ use mathlib.Core.Path.{_≡_, refl, sym, _∙_}
 use mathlib.Core.Bool.{true}
 use mathlib.Core.List.{List, [], _∷_, _++_, append-assoc}
 use Prim.Native.Nat.{ℕ, suc, _+_, _*_, _≤_, _<_}
-use native.Mathlib.Nat.{zero-add, add-suc}
+use native.Mathlib.Nat.{zero-add}
 use native.Mathlib.Numerals.{add-one}
 use native.Mathlib.Omega.{arith}
 use borrow.Author.Tests.{lt-ltb, le-ltb, ltb-true}
@@ -14,7 +14,7 @@ use Rattle.sheet.specs.Number.{digitOf}
 use Rattle.sheet.proofs.Choice.{pick-elim}
 use Rattle.formulas.specs.Grammar.{Numeral, one-digit, one-more}
 use Rattle.formulas.specs.Answer.{frontValue}
-use Rattle.formulas.specs.Built.{capped, literalOf, digitsFrom}
+use Rattle.formulas.specs.Built.{capped}
 use Rattle.formulas.proofs.ByteTokens.{digit-of}
 
 -- Where each digit leads from what is told of the digits before it to what is told with it, the whole literal does.
@@ -60,21 +60,3 @@ capped-digit v d =
     (λ e. let h : endLimit < v = ltb-true endLimit v e in
     capped-beyond ((endLimit + 1) * 10 + d) (omega arith) ∙ sym (capped-beyond (v * 10 + d) (omega arith)))
     (λ e. refl)
-
-digits-digit : (v p d : ℕ) (rest : List ℕ) → d < 10 → digitsFrom v p ((48 + d) ∷ rest) ≡ digitsFrom (capped (v * 10 + d)) (suc p) rest
-unfolding digitsFrom
-digits-digit v p d rest h = rw (digit-of d h, lt-ltb d 10 h)
-
-digits-stop : (v p : ℕ) (rest : List ℕ) → 10 ≤ digitOf (getD rest 0 0) → digitsFrom v p rest ≡ literalOf v p
-unfolding digitsFrom
-digits-stop v p [] h = refl
-digits-stop v p (b ∷ bs) h = rw (le-ltb (digitOf b) 10 h)
-
-pub digits-of-numeral : (s rest : List ℕ) (v p : ℕ) → Numeral s v → 10 ≤ digitOf (getD rest 0 0)
-    → digitsFrom 0 p (s ++ rest) ≡ literalOf (capped v) (p + length s)
-digits-of-numeral s rest v p x h =
-    through-digits (digitsFrom 0 p) (λ n w. digitsFrom (capped w) (p + n))
-    (λ d l g. rw (add-one p) (rw zero-add at (digits-digit 0 p d l g)))
-    (λ n w d l z g. rw (add-suc p n, ← capped-digit w d) (digits-digit (capped w) (p + n) d l g))
-    x rest
-    ∙ digits-stop (capped v) (p + length s) rest h

@@ -5,5 +5,4 @@ pub mod Steps
 pub mod Reading
 pub mod Answer
 pub mod Claims
-pub mod Shape
 pub mod Built

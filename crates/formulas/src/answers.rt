@@ -1,6 +1,5 @@
 // What the call answers: the test of the inputs, a refusal, and the schedule of a text that is a formula.
 use crate::InputBlock;
-use crate::MAX_NESTING;
 use crate::builder;
 use crate::steps;
 use sheet::End;
@@ -14,10 +13,9 @@ ghost use mathlib.Core.Path.{_≡_};
 ghost use Prim.Native.Nat.{_≤_};
 ghost use Rattle.sheet.specs.Limits.{maxInputs};
 ghost use Rattle.sheet.specs.Lines.{natural};
-ghost use Rattle.formulas.specs.Limits.{maxNesting};
-ghost use Rattle.formulas.specs.Grammar;
 ghost use Rattle.formulas.specs.Grammar.{Tree};
-ghost use Rattle.formulas.specs.Steps.{endsWithin, LiteralsWithin};
+ghost use Rattle.formulas.specs.Steps.{stepCount, endsWithin};
+ghost use Rattle.formulas.specs.Reading.{formulaOf};
 ghost use Rattle.formulas.specs.Answer;
 ghost use Rattle.formulas.specs.Built as Spec;
 
@@ -65,14 +63,16 @@ pub fn inputs_test(block: InputBlock) -> Refusal
     })
 }
 
-// The schedule of a text that is a formula, or 11.
-pub fn built(block: InputBlock, text: &[u8], inputs: usize) -> ReadAnswer
-    requires { ⌜ (inputs ≡ natural (block .inputs)) × Spec.Small (now text) inputs 0 0 × Spec.Some (now text) inputs 2 maxNesting 0 ⌝ }
-    ensures { λ r. ⌜ ((t : Tree) → Grammar.Formula inputs (now (text .entry)) t → LiteralsWithin t → r ≡ Answer.stepsAnswer block t) ⌝ }
+// The schedule of so many steps, or 11.
+fn steps_answer(
+    block: InputBlock,
+    inputs: usize,
+    count: usize,
+    numbers: &[i64; steps::STEP_NUMBERS],
+) -> ReadAnswer
+    requires { ⌜ (inputs ≡ natural (block .inputs)) × (inputs ≤ maxInputs) ⌝ }
+    ensures { λ r. ⌜ ((t : Tree) → count ≡ stepCount t → now (numbers .entry) ≡ Spec.stepsHeld inputs t → r ≡ Answer.stepsAnswer block t) ⌝ }
 {
-    let mut numbers = [0i64; steps::STEP_NUMBERS];
-    let whole = builder::chain(text, 0, 2, MAX_NESTING, inputs, 0, &mut numbers);
-    let count = whole.count;
     if count == 0 {
         return refused(Refusal {
             number: 11,
@@ -86,7 +86,7 @@ pub fn built(block: InputBlock, text: &[u8], inputs: usize) -> ReadAnswer
         });
     }
     let ends = ends_within(block, inputs);
-    let step = steps::steps_from(&numbers);
+    let step = steps::steps_from(numbers);
     ReadAnswer {
         refusal: Refusal {
             number: 0,
@@ -100,4 +100,26 @@ pub fn built(block: InputBlock, text: &[u8], inputs: usize) -> ReadAnswer
             step,
         },
     }
+}
+
+// What is answered of a text beside inputs that pass: 10, 5, 11, or its schedule.
+pub fn text_answer(block: InputBlock, text: &[u8], inputs: usize) -> ReadAnswer
+    requires { ⌜ (inputs ≡ natural (block .inputs)) × (inputs ≤ maxInputs) ⌝ }
+    ensures { λ r. ⌜ r ≡ Answer.textAnswer block (now (text .entry)) (formulaOf inputs (now (text .entry))) ⌝ }
+{
+    let mut numbers = [0i64; steps::STEP_NUMBERS];
+    let whole = builder::whole(text, inputs, &mut numbers);
+    if whole.wrong != 0 {
+        return refused(Refusal {
+            number: 10,
+            place: whole.wrong,
+        });
+    }
+    if whole.beyond != 0 {
+        return refused(Refusal {
+            number: 5,
+            place: whole.beyond,
+        });
+    }
+    steps_answer(block, inputs, whole.count, &numbers)
 }

@@ -1,21 +1,52 @@
 // A formula read into steps: the reader goes into each pair of brackets by calling itself, with one pair less to go.
+use crate::MAX_NESTING;
+use crate::MAX_TEXT;
 use crate::Sign;
 use crate::Token;
 use crate::literals;
 use crate::steps;
 use crate::tokens;
 ghost use mathlib.Core.Path.{_≡_};
-ghost use mathlib.Core.List.{List};
-ghost use Prim.Native.Nat.{ℕ, _≤_};
+ghost use Prim.Native.Nat.{suc, _≤_, _<_};
 ghost use lib.ListN.{length};
-ghost use Rattle.formulas.specs.Grammar.{Tree};
+ghost use Rattle.sheet.specs.Limits.{maxInputs};
 ghost use Rattle.formulas.specs.Built as Spec;
 
-// A part of a formula that was read: the position behind it, the row that it is, and how many steps there are so far.
+// A part of a formula that was read: the position behind it, the row that it is, how many steps there are so far, and the place of the first literal beyond
+// the limits so far, or 0. Where `wrong` is not 0, it is the place of a byte that no formula has there, and nothing else counts.
 pub struct Part {
+    pub wrong: usize,
     pub next: usize,
     pub row: usize,
     pub count: usize,
+    pub beyond: usize,
+}
+
+// The byte at this position is one that no formula has there.
+fn wrong_at(at: usize) -> Part
+    requires { ⌜ at < 1000 ⌝ }
+    ensures { λ r. ⌜ r .wrong ≡ suc at ⌝ }
+{
+    Part {
+        wrong: at + 1,
+        next: 0,
+        row: 0,
+        count: 0,
+        beyond: 0,
+    }
+}
+
+// A part that was read.
+fn part_of(next: usize, row: usize, count: usize, beyond: usize) -> Part
+    ensures { λ r. ⌜ r ≡ Spec.partOf next row count beyond ⌝ }
+{
+    Part {
+        wrong: 0,
+        next,
+        row,
+        count,
+        beyond,
+    }
 }
 
 // The rank of the sign that a byte is, or 0.
@@ -35,6 +66,14 @@ fn byte_rank(b: u8) -> usize
     }
 }
 
+// The same, if it is at most this rank.
+fn sign_rank(rank: usize, b: u8) -> usize
+    ensures { λ r. ⌜ r ≡ Spec.signRank rank b ⌝ }
+{
+    let r = byte_rank(b);
+    if r <= rank { r } else { 0 }
+}
+
 fn byte_sign(b: u8) -> Sign
     ensures { λ r. ⌜ r ≡ Spec.byteSign b ⌝ }
 {
@@ -50,17 +89,21 @@ fn byte_sign(b: u8) -> Sign
 }
 
 // The literal at a position becomes a constant step.
-fn constant(text: &[u8], at: usize, inputs: usize, count: usize, numbers: &mut [i64]) -> Part
-    requires { ⌜ (length (now numbers) ≡ Spec.numbersRoom) × Spec.Small (now text) inputs at count × (at ≤ length (now text)) ⌝ }
-    ensures { λ r. ⌜ Spec.Constant (now (text .entry)) at inputs count (now (numbers .entry)) (now (numbers .exit)) r ⌝ }
+fn constant(
+    text: &[u8],
+    at: usize,
+    inputs: usize,
+    count: usize,
+    beyond: usize,
+    numbers: &mut [i64],
+) -> Part
+    requires { ⌜ (length (now numbers) ≡ Spec.numbersRoom) × Spec.Small (now text) inputs at count × (at < length (now text)) ⌝ }
+    ensures { λ r. ⌜ Spec.Constant (now (text .entry)) at inputs count beyond (now (numbers .entry)) (now (numbers .exit)) r ⌝ }
 {
-    let literal = literals::digits_from(text, at);
+    let literal = literals::literal_at(text, at);
     let count = steps::put_step(numbers, count, steps::step_of(1, 0, 0, literal.value));
-    Part {
-        next: literal.next,
-        row: inputs + count,
-        count,
-    }
+    let beyond = literals::beyond_with(beyond, literal.value, at);
+    part_of(literal.next, inputs + count, count, beyond)
 }
 
 // The operand at a position: a literal, a letter, or what stands in brackets, of which so many may still be opened.
@@ -70,75 +113,99 @@ fn operand(
     depth: usize,
     inputs: usize,
     count: usize,
+    beyond: usize,
     numbers: &mut [i64],
 ) -> Part
-    requires { ⌜ (length (now numbers) ≡ Spec.numbersRoom) × Spec.Small (now text) inputs at count × Spec.Some (now text) inputs 0 depth at ⌝ }
-    ensures { λ r. ⌜ ((s : List ℕ) (t : Tree) (rest : List ℕ) → Spec.Stands (now (text .entry)) inputs 0 depth at s t rest → Spec.Built inputs at count s t (now (numbers .entry)) (now (numbers .exit)) r) ⌝ }
+    requires { ⌜ (length (now numbers) ≡ Spec.numbersRoom) × Spec.Small (now text) inputs at count ⌝ }
+    ensures { λ r. ⌜ Spec.PartRead (now (text .entry)) inputs 0 depth at count beyond (now (numbers .entry)) (now (numbers .exit)) r ⌝ }
 {
     match tokens::token_of(inputs, sheet::byte(text, at)) {
-        Token::Digit(_) => constant(text, at, inputs, count, numbers),
-        Token::Letter(i) => Part {
-            next: at + 1,
-            row: i + 1,
-            count,
-        },
-        Token::Operator(_) => none(at, count),
+        Token::Digit(_) => constant(text, at, inputs, count, beyond, numbers),
+        Token::Letter(i) => part_of(at + 1, i + 1, count, beyond),
+        Token::Operator(_) => wrong_at(at),
         Token::Opening => {
-            let inner = chain(text, at + 1, 2, depth - 1, inputs, count, numbers);
-            Part {
-                next: inner.next + 1,
-                row: inner.row,
-                count: inner.count,
+            if depth == 0 {
+                return wrong_at(at);
             }
+            let inner = chain(text, at + 1, 2, depth - 1, inputs, count, beyond, numbers);
+            if inner.wrong != 0 {
+                return inner;
+            }
+            if sheet::byte(text, inner.next) != b')' {
+                return wrong_at(inner.next);
+            }
+            part_of(inner.next + 1, inner.row, inner.count, inner.beyond)
         }
-        Token::Closing => none(at, count),
-        Token::Other => none(at, count),
+        Token::Closing => wrong_at(at),
+        Token::Other => wrong_at(at),
     }
 }
 
-// The part of a rank at a position, from the left to the right.
-pub fn chain(
+// The part of a rank at a position: an operand, and then sign and part as long as a sign of the rank or below follows. What stands behind a sign is a part of
+// the rank below the sign's.
+fn chain(
     text: &[u8],
     at: usize,
     rank: usize,
     depth: usize,
     inputs: usize,
     count: usize,
+    beyond: usize,
     numbers: &mut [i64],
 ) -> Part
-    requires { ⌜ (length (now numbers) ≡ Spec.numbersRoom) × Spec.Small (now text) inputs at count × Spec.Some (now text) inputs rank depth at ⌝ }
-    ensures { λ r. ⌜ ((s : List ℕ) (t : Tree) (rest : List ℕ) → Spec.Stands (now (text .entry)) inputs rank depth at s t rest → Spec.Built inputs at count s t (now (numbers .entry)) (now (numbers .exit)) r) ⌝ }
+    requires { ⌜ (length (now numbers) ≡ Spec.numbersRoom) × Spec.Small (now text) inputs at count ⌝ }
+    ensures { λ r. ⌜ Spec.PartRead (now (text .entry)) inputs rank depth at count beyond (now (numbers .entry)) (now (numbers .exit)) r ⌝ }
 {
-    if rank == 0 {
-        return operand(text, at, depth, inputs, count, numbers);
+    let mut left = operand(text, at, depth, inputs, count, beyond, &mut *numbers);
+    if left.wrong != 0 {
+        return left;
     }
-    let mut left = chain(text, at, rank - 1, depth, inputs, count, &mut *numbers);
-    while byte_rank(sheet::byte(text, left.next)) == rank {
+    let mut r = sign_rank(rank, sheet::byte(text, left.next));
+    while r != 0 {
         let g = byte_sign(sheet::byte(text, left.next));
         let right = chain(
             text,
             left.next + 1,
-            rank - 1,
+            r - 1,
             depth,
             inputs,
             left.count,
+            left.beyond,
             &mut *numbers,
         );
+        if right.wrong != 0 {
+            return right;
+        }
         let count = steps::put_sign(&mut *numbers, g, inputs, right.count, left.row, right.row);
-        left = Part {
-            next: right.next,
-            row: inputs + count,
-            count,
-        };
+        left = part_of(right.next, inputs + count, count, right.beyond);
+        r = sign_rank(rank, sheet::byte(text, left.next));
     }
     left
 }
 
-// No operand stands here, which the callers rule out: `operand` requires one.
-fn none(at: usize, count: usize) -> Part {
-    Part {
-        next: at,
-        row: 0,
-        count,
+// How many bytes of a text of this length are looked at.
+fn front_length(n: usize) -> usize
+    ensures { λ r. ⌜ r ≡ Spec.frontLength n ⌝ }
+{
+    if n <= MAX_TEXT { n } else { MAX_TEXT }
+}
+
+// The whole text as a formula: a byte behind it, or a 201st, is one that no formula has there.
+pub fn whole(text: &[u8], inputs: usize, numbers: &mut [i64]) -> Part
+    requires { ⌜ (length (now numbers) ≡ Spec.numbersRoom) × (inputs ≤ maxInputs) ⌝ }
+    ensures { λ r. ⌜ Spec.Whole (now (text .entry)) inputs (now (numbers .entry)) (now (numbers .exit)) r ⌝ }
+{
+    let end = front_length(text.len());
+    let front = &text[..end];
+    let part = chain(front, 0, 2, MAX_NESTING, inputs, 0, 0, numbers);
+    if part.wrong != 0 {
+        return part;
     }
+    if part.next < end {
+        return wrong_at(part.next);
+    }
+    if end < text.len() {
+        return wrong_at(end);
+    }
+    part
 }

@@ -2,12 +2,10 @@
 use sheet::End;
 use sheet::MAX_INPUTS;
 use sheet::ReadAnswer;
-use sheet::Refusal;
 ghost use mathlib.Core.Path.{_≡_};
 ghost use Rattle.formulas.specs.Answer.{answerOf};
 
 mod tokens; // tokens.rt: what a byte of a formula is
-mod scan; // scan.rt: the first byte that no formula has
 mod literals; // literals.rt: literals, and the first that is beyond the limits
 mod steps; // steps.rt: steps put one behind another
 mod builder; // builder.rt: a formula read into steps
@@ -51,17 +49,5 @@ pub fn read(block: InputBlock, text: &[u8]) -> ReadAnswer
     if refusal.number != 0 {
         return answers::refused(refusal);
     }
-    let inputs = sheet::natural(block.inputs);
-    let place = scan::first_wrong(text, inputs);
-    if place != 0 {
-        return answers::refused(Refusal { number: 10, place });
-    }
-    let beyond = literals::first_beyond(text);
-    if beyond != 0 {
-        return answers::refused(Refusal {
-            number: 5,
-            place: beyond,
-        });
-    }
-    answers::built(block, text, inputs)
+    answers::text_answer(block, text, sheet::natural(block.inputs))
 }

@@ -1,11 +1,8 @@
 // Literals of a formula: the value of one, and the first that is beyond a constant's limits.
-use crate::tokens;
 use sheet::END_LIMIT;
 ghost use mathlib.Core.Path.{_≡_};
-ghost use mathlib.Core.Bool.{false};
-ghost use Prim.Native.Nat.{_≤_};
+ghost use Prim.Native.Nat.{_≤_, _<_};
 ghost use lib.ListN.{length, drop};
-ghost use Rattle.formulas.specs.Answer.{firstBeyond};
 ghost use Rattle.formulas.specs.Built as Spec;
 
 // The greatest constant.
@@ -24,7 +21,7 @@ fn capped(v: u64) -> u64
 }
 
 // The digits from a position on.
-pub fn digits_from(text: &[u8], at: usize) -> Literal
+fn digits_from(text: &[u8], at: usize) -> Literal
     requires { ⌜ at ≤ length (now text) ⌝ }
     ensures { λ r. ⌜ r ≡ Spec.digitsFrom 0 at (drop at (now (text .entry))) ⌝ }
 {
@@ -41,21 +38,27 @@ pub fn digits_from(text: &[u8], at: usize) -> Literal
     Literal { value: v, next: i }
 }
 
-// The place of the first literal that is beyond a constant's limits, or 0.
-pub fn first_beyond(text: &[u8]) -> usize
-    ensures { λ r. ⌜ r ≡ firstBeyond 1 false (now (text .entry)) ⌝ }
+// The literal at a position: 0 alone, or all digits from there on.
+pub fn literal_at(text: &[u8], at: usize) -> Literal
+    requires { ⌜ at < length (now text) ⌝ }
+    ensures { λ r. ⌜ r ≡ Spec.literalAt (now (text .entry)) at ⌝ }
 {
-    let mut i = 0;
-    while i < text.len() {
-        if sheet::digit(text[i]) < 10 {
-            let literal = digits_from(text, i);
-            if MOST < literal.value {
-                return i + 1;
-            }
-            i = literal.next;
-        } else {
-            i += 1;
-        }
+    if sheet::digit(text[at]) == 0 {
+        return Literal {
+            value: 0,
+            next: at + 1,
+        };
     }
-    0
+    digits_from(text, at)
+}
+
+// The place of the first literal beyond a constant's limits: that of an earlier one, or of this value at a position, or 0.
+pub fn beyond_with(beyond: usize, value: u64, at: usize) -> usize
+    requires { ⌜ at < 1000 ⌝ }
+    ensures { λ r. ⌜ r ≡ Spec.beyondWith beyond value at ⌝ }
+{
+    if beyond != 0 {
+        return beyond;
+    }
+    if MOST < value { at + 1 } else { 0 }
 }
