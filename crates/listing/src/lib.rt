@@ -1,18 +1,19 @@
 // The text of a sheet, listing or refusal, written whole into lent bytes (manual, section 3).
-mod rows; // rows.rt: the line of a row
-mod texts; // texts.rt: the listing of a table's rows, and a refusal
-
-// A refusal as it is printed, for programs that print others.
 use sheet::Refusal;
 use sheet::Schedule;
 use sheet::WriteAnswer;
-pub use texts::put_refusal;
 ghost use mathlib.Core.Path.{_≡_};
 ghost use Prim.Native.Nat.{_≤_};
 ghost use lib.ListN.{length};
 ghost use Rattle.sheet.specs.Wrote.{Wrote};
 ghost use Rattle.listing.specs.Listing.{scheduleText, tableLeft};
 ghost use Rattle.listing.specs.Listed.{Listed, textRoom};
+
+mod rows; // rows.rt: the line of a row
+mod texts; // texts.rt: the listing of a table's rows, and a refusal
+
+// A refusal as it is printed, for programs that print refusals of other calls.
+pub use texts::put_refusal;
 
 // As many bytes as every text fits into.
 pub const TEXT_ROOM: usize = 4096;
