@@ -4,9 +4,9 @@
     python3 checker/bench_evaluate.py 100000 | target/bin/bench_evaluate        (a measurement)
 
 The program reads a line with a count N, of 1 to 8 digits and at most 10,000,000, and then a sheet.
-It evaluates the sheet N times into one table of 1,560 numbers, all zero at the start, and prints
-one line: N, then low and high of the last row; or `refused NUMBER PLACE` where the sheet is refused;
-or `no count` where the first line is none.
+It evaluates the sheet N times into one table of 1,560 numbers and one table of ranges of 60, all
+zero at the start, and prints one line: N, then low and high of the last row; or `refused NUMBER
+PLACE` where the sheet is refused; or `no count` where the first line is none.
 """
 
 import re
@@ -41,13 +41,13 @@ def printed(data: bytes) -> bytes:
         return b"no count\n"
     read = sheet.read(rest)
     refusal = (read.number, read.place)
-    table = [0] * listing.TABLE_LENGTH
+    tables = [0] * listing.TABLE_LENGTH, [0] * listing.RANGES_LENGTH
     if not read.number and int(line):
-        refusal = evaluation.evaluate(read.schedule, table)
+        refusal = evaluation.evaluate(read.schedule, *tables)
     if refusal[0]:
         return b"refused %d %d\n" % tuple(refusal)
-    last = read.schedule.counts.inputs + read.schedule.counts.steps
-    return b"%d %d %d\n" % (int(line), *evaluation.row_range(table, last, last)[2:])
+    last = evaluation.row_count(read.schedule)
+    return b"%d %d %d\n" % (int(line), *evaluation.row_range(*tables, last, last)[2:])
 
 
 def files() -> dict[str, bytes]:

@@ -1,11 +1,13 @@
-"""Runs the built program over generated sheets and compares what it prints, byte for byte.
+"""Runs the built program over samples and generated sheets and compares what it prints, byte for
+byte.
 
     python3 checker/compare.py target/bin/ranges
     python3 checker/compare.py target/bin/ranges --count 1000000      (a longer run)
     python3 checker/compare.py target/bin/ranges --seed 7 --count 100 (those sheets again)
 
-One process for each sheet: the sheets of a fixed seed, as many of a fresh seed, and one sheet with
-every byte at every place. Each sheet is a file on standard input, but one in 16 comes through a
+One process for each sheet: the samples of another implementation, whose listings are stored beside
+them, the sheets of a fixed seed, as many of a fresh seed, and one sheet with every byte at every
+place. Each sheet is a file on standard input, but one in 16 comes through a
 pipe, a few bytes at a time. A program that ends by a signal, with a status other than 0, or not
 within 10 seconds fails on that sheet. A mismatch prints the sheet; the last line is
 `N passed, M failed`.
@@ -19,9 +21,11 @@ import select
 import signal
 import subprocess
 import sys
+from typing import NamedTuple
 
 import generate
 import listing
+import samples
 
 FIXED_SEED = "01"
 COUNT_OF_EACH_SEED = 15_000
@@ -29,6 +33,16 @@ SECONDS_ALLOWED = 10
 PIPED_ONE_IN = 16
 CHUNK = 100
 SHOWN = 5
+
+
+class Name(NamedTuple):
+    """A sheet, by where it comes from and its index there."""
+
+    origin: str
+    index: int
+
+
+SAMPLE, SWEEP, SEED = "sample", "sweep", "seed "
 
 
 class Runner:
@@ -77,47 +91,53 @@ class Runner:
         return process.returncode, output
 
 
-def sheet_of(name) -> bytes:
-    """The sheet of a name: a seed and an index, or a place in the sweep."""
-    seed, index = name
-    return swept[index] if seed is None else generate.sheet_bytes(seed, index)
+def sheet_and_text(name: Name) -> tuple[bytes, bytes]:
+    """The sheet of a name, and what must be printed for it."""
+    if name.origin == SAMPLE:
+        return sampled[name.index]
+    if name.origin == SWEEP:
+        data = swept[name.index]
+    else:
+        data = generate.sheet_bytes(name.origin.removeprefix(SEED), name.index)
+    return data, listing.listing(data)
 
 
-def compare(name):
-    """None where the program prints what the specification says, and else what is to be shown."""
-    data = sheet_of(name)
-    run = runner.from_pipe if name[1] % PIPED_ONE_IN == 0 else runner.from_file
+def compare(name: Name):
+    """None where the program prints what it must, and else what is to be shown."""
+    data, expected = sheet_and_text(name)
+    run = runner.from_pipe if name.index % PIPED_ONE_IN == 0 else runner.from_file
     status, printed = run(data)
-    expected = listing.listing(data)
     if status == 0 and printed == expected:
         return None
     return name, data, status, printed, expected
 
 
 def start_worker(program: str) -> None:
-    global runner, swept
+    global runner, sampled, swept
     runner = Runner(program)
+    sampled = samples.listings()
     swept = generate.every_byte_at_every_place()
 
 
 def show(name, data, status, printed, expected) -> None:
-    seed, index = name
-    origin = f"sweep {index}" if seed is None else f"seed {seed} index {index}"
-    print(f"mismatch: {origin}, {len(data)} bytes, status {status}")
+    print(f"mismatch: {name.origin} index {name.index}, {len(data)} bytes, status {status}")
     for title, content in (("sheet", data), ("printed", printed), ("expected", expected)):
         print(f"--- {title}")
         print(content.decode("ascii", "backslashreplace"))
     print("---", flush=True)
 
 
-def names_of(options):
+def names_of(options) -> list[Name]:
     if options.seed is not None:
         indices = range(options.first, options.first + options.count)
-        return [(options.seed, index) for index in indices]
+        return [Name(SEED + options.seed, index) for index in indices]
     fresh = secrets.token_hex(4)
     print(f"seeds {FIXED_SEED} and {fresh}", flush=True)
-    sweep = [(None, index) for index in range(len(generate.every_byte_at_every_place()))]
-    return sweep + [(seed, i) for seed in (FIXED_SEED, fresh) for i in range(options.count)]
+    names = [Name(SAMPLE, index) for index in range(len(samples.listings()))]
+    names += [Name(SWEEP, index) for index in range(len(generate.every_byte_at_every_place()))]
+    for seed in (FIXED_SEED, fresh):
+        names += [Name(SEED + seed, index) for index in range(options.count)]
+    return names
 
 
 def main() -> int:

@@ -4,7 +4,8 @@
 
 The specification, demand 3 and "The words of demand 3" (manual, section 4). `violations` checks
 every clause on one accepted schedule, for one choice of inputs within their ends and one choice of
-noise symbols. spoilt.py holds ways to get row arithmetic wrong in which it must find violations.
+noise symbols. A row's range is there its answered range, as the second table holds it. spoilt.py
+holds ways to get rows and ranges wrong in which it must find violations.
 """
 
 import random
@@ -124,8 +125,9 @@ def in_range(value: Fraction, low: int, high: int) -> bool:
 
 def violations(schedule, inputs, symbols) -> list[str]:
     """The clauses of demand 3 that fail, for inputs within their ends and any symbols."""
-    table = [0] * (rows.NUMBERS * (schedule.counts.inputs + schedule.counts.steps))
-    if evaluation.evaluate(schedule, table).number:
+    count = evaluation.row_count(schedule)
+    table, ranges = [0] * (rows.NUMBERS * count), [0] * (evaluation.RANGE_NUMBERS * count)
+    if evaluation.evaluate(schedule, table, ranges).number:
         raise ValueError("demand 3 speaks of accepted sheets")
     if not all(in_range(value, *end) for value, end in zip(inputs, schedule.ends)):
         raise ValueError("demand 3 speaks of inputs within their ends")
@@ -133,11 +135,10 @@ def violations(schedule, inputs, symbols) -> list[str]:
         exact = exact_values(schedule, inputs)
     except ZeroDivisor:
         return [DIVISOR]
-    count = len(exact)
     numbers = range(1, count + 1)
     form_rows = [evaluation.row_part(table, count, number) for number in numbers]
     found = found_values(form_rows, exact)
-    ranges = [evaluation.row_range(table, count, number) for number in numbers]
+    answers = [evaluation.row_range(table, ranges, count, number) for number in numbers]
     failed = {
         EQUAL_EXACTLY_WHEN: not all(
             equal_exactly_when_found(form_rows, exact, found, choice)
@@ -145,7 +146,7 @@ def violations(schedule, inputs, symbols) -> list[str]:
         ),
         FOUND: not all(-1 <= value <= 1 for value in found.values()),
         RANGE: not all(
-            in_range(value, answer.low, answer.high) for value, answer in zip(exact, ranges)
+            in_range(value, answer.low, answer.high) for value, answer in zip(exact, answers)
         ),
         SAME: any(
             evaluation.same_rows(table, count, first, second).same

@@ -1,6 +1,11 @@
-"""Evaluation into a lent table, and the calls that ask about rows of a table.
+"""Evaluation into two lent tables, and the calls that ask about rows of a table.
 
-The specification, causes 6 to 9 of "Causes and what follows" (manual, section 6). A lent table is a Python list of numbers.
+The specification, causes 6 to 9 of "Causes and what follows" (manual, section 6), and the request
+2026-02. A lent table is a Python list of numbers. The first holds the 52 numbers of each row; the
+second, the table of ranges, holds two numbers a row: the low and the high that are answered.
+
+A row has two ranges. Its own range is that of its form, or of an input its ends; a reciprocal takes
+its test and its distance from there. Its answered range is what is stored, told and printed.
 """
 
 from typing import NamedTuple
@@ -9,6 +14,7 @@ import rows
 import sheet
 
 ROWS_LIMIT = 30
+RANGE_NUMBERS = 2
 
 
 class Answer(NamedTuple):
@@ -29,57 +35,102 @@ class SameAnswer(NamedTuple):
     same: bool
 
 
+class WorkedRow(NamedTuple):
+    """The 52 numbers of a row that came about, and its two ranges."""
+
+    numbers: list
+    own_range: rows.Range
+    answered_range: rows.Range
+
+
 class Work(NamedTuple):
     """The rows that came about, and number and place of the refusal that ended them, or 0 and 0."""
 
-    rows: list
+    rows: list[WorkedRow]
     number: int
     place: int
 
 
-def input_or_step_row(schedule, number, worked):
-    """What row `number` becomes, from the rows worked before it: "Rows are numbered from 1:
+def input_or_step_numbers(schedule, row: int, worked):
+    """The 52 numbers that a row becomes, from the rows worked before it: "Rows are numbered from 1:
     inputs first, then steps."."""
     inputs, squares, _ = schedule.counts
-    if number <= inputs:
-        return rows.input_row(*schedule.ends[number - 1], number)
-    step = schedule.steps[number - inputs - 1]
+    if row <= inputs:
+        return rows.input_row(*schedule.ends[row - 1], row)
+    step = schedule.steps[row - inputs - 1]
     if step.code == sheet.CONSTANT:
         return rows.constant_row(step.value)
     first = worked[step.first - 1]
     if step.code == sheet.RECIPROCAL:
-        return rows.reciprocal(first, squares, number)
+        return rows.reciprocal(first.numbers, first.own_range, squares, row)
     second = worked[step.second - 1]
     if step.code == sheet.ADD:
-        return rows.add(first, second)
+        return rows.add(first.numbers, second.numbers)
     if step.code == sheet.SUBTRACT:
-        return rows.subtract(first, second)
-    return rows.multiply(first, second, squares, number)
+        return rows.subtract(first.numbers, second.numbers)
+    return rows.multiply(first.numbers, second.numbers, squares, row)
+
+
+def own_range(schedule, row: int, numbers) -> rows.Range:
+    """"an input row's range is its own low and high, and a reciprocal takes its distance from 0
+    from that"; every other row has the range of its form."""
+    if row <= schedule.counts.inputs:
+        return rows.Range(*schedule.ends[row - 1])
+    return rows.form_range(numbers)
+
+
+def answered_range(own: rows.Range) -> rows.Range:
+    """The range that is answered for a row: its own."""
+    return own
+
+
+def work_row(schedule, row: int, worked) -> WorkedRow:
+    """A row with its ranges, from the rows worked before it."""
+    numbers = input_or_step_numbers(schedule, row, worked)
+    own = own_range(schedule, row, numbers)
+    return WorkedRow(numbers, own, answered_range(own))
+
+
+def row_count(schedule) -> int:
+    return schedule.counts.inputs + schedule.counts.steps
 
 
 def work(schedule) -> Work:
     """The rows of a schedule that passes 3, 4, 5: "then row by row, 7 before 6"."""
     worked = []
-    for number in range(1, schedule.counts.inputs + schedule.counts.steps + 1):
+    for row in range(1, row_count(schedule) + 1):
         try:
-            worked.append(input_or_step_row(schedule, number, worked))
+            worked.append(work_row(schedule, row, worked))
         except rows.RowRefusal as refusal:
-            return Work(worked, refusal.number, number)
+            return Work(worked, refusal.number, row)
     return Work(worked, 0, 0)
 
 
-def evaluate(schedule, table: list) -> Answer:
+def too_short(table, ranges, count: int) -> bool:
+    """Whether a table does not hold 52 numbers, or the table of ranges two, for each row of the
+    count: "It follows the first one's rules"."""
+    return len(table) < rows.NUMBERS * count or len(ranges) < RANGE_NUMBERS * count
+
+
+def store(worked, table: list, ranges: list) -> None:
+    """Writes the rows, and their answered ranges, to the start of both tables."""
+    for index, row in enumerate(worked):
+        table[rows.NUMBERS * index : rows.NUMBERS * (index + 1)] = row.numbers
+        ranges[RANGE_NUMBERS * index : RANGE_NUMBERS * (index + 1)] = row.answered_range
+
+
+def evaluate(schedule, table: list, ranges: list) -> Answer:
     """"Evaluation needs 52 numbers for each row and writes no others. After 6 or 7 the rows
-    before the place are written."."""
+    before the place are written."; "evaluation also fills a second lent table, two numbers a row,
+    with the answered low and high"."""
     try:
         sheet.test(schedule)
     except sheet.Refusal as refusal:
         return Answer(refusal.number, refusal.place)
-    if len(table) < rows.NUMBERS * (schedule.counts.inputs + schedule.counts.steps):
+    if too_short(table, ranges, row_count(schedule)):
         return Answer(8, 0)
     worked = work(schedule)
-    for index, row in enumerate(worked.rows):
-        table[rows.NUMBERS * index : rows.NUMBERS * (index + 1)] = row
+    store(worked.rows, table, ranges)
     return Answer(worked.number, worked.place)
 
 
@@ -88,32 +139,59 @@ def numbers_of(table, row: int):
     return table[rows.NUMBERS * (row - 1) : rows.NUMBERS * row]
 
 
+def ends_of(ranges, row: int) -> rows.Range:
+    """The low and the high that a table of ranges holds for a row."""
+    return rows.Range(*ranges[RANGE_NUMBERS * (row - 1) : RANGE_NUMBERS * row])
+
+
+def wrong_rows(count: int, asked) -> bool:
+    """9: "a row asked for is 0 or above the count given, or the count is above 30"."""
+    return count > ROWS_LIMIT or any(row == 0 or row > count for row in asked)
+
+
+def over_the_span(table, row: int) -> bool:
+    """6: "span passed [...] by a row lent to us"."""
+    return rows.span(numbers_of(table, row)) > rows.SPAN_LIMIT
+
+
 def asking_refusal(table, count: int, asked) -> Answer:
     """"Asking about rows: 9, 8, 6, the lower row first; the table must hold 52 numbers for each
-    row of the count given."; 9 is "a row asked for is 0 or above the count given, or the count is
-    above 30"."""
-    if count > ROWS_LIMIT or any(row == 0 or row > count for row in asked):
+    row of the count given."."""
+    if wrong_rows(count, asked):
         return Answer(9, 0)
     if len(table) < rows.NUMBERS * count:
         return Answer(8, 0)
     for row in sorted(asked):
-        if rows.span(numbers_of(table, row)) > rows.SPAN_LIMIT:
+        if over_the_span(table, row):
             return Answer(6, row)
     return Answer(0, 0)
 
 
-def row_range(table, count: int, row: int) -> RangeAnswer:
-    """"tells a row's range"; "Beside a refusal every other answer is 0"."""
-    refusal = asking_refusal(table, count, [row])
+def range_refusal(table, ranges, count: int, row: int) -> Answer:
+    """"a range is read there, with both tables lent; a row over the span or a low above its high
+    gives 6"."""
+    if wrong_rows(count, [row]):
+        return Answer(9, 0)
+    if too_short(table, ranges, count):
+        return Answer(8, 0)
+    low, high = ends_of(ranges, row)
+    if over_the_span(table, row) or low > high:
+        return Answer(6, row)
+    return Answer(0, 0)
+
+
+def row_range(table, ranges, count: int, row: int) -> RangeAnswer:
+    """"tells a row's range": the low and the high of the second table; "Beside a refusal every
+    other answer is 0"."""
+    refusal = range_refusal(table, ranges, count, row)
     if refusal.number:
         return RangeAnswer(*refusal, 0, 0)
-    numbers = numbers_of(table, row)
-    return RangeAnswer(0, 0, rows.low(numbers), rows.high(numbers))
+    return RangeAnswer(0, 0, *ends_of(ranges, row))
 
 
 def row_part(table, count: int, row: int) -> list:
     """"A row asked for is handed back as a part of the lent table itself. Where it is refused the
-    part is empty, and the range of that row gives number and place."."""
+    part is empty"."""
     if asking_refusal(table, count, [row]).number:
         return []
     return numbers_of(table, row)

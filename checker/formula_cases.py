@@ -3,14 +3,11 @@ beside them. Each case is (inputs, squares, six ends, text); library_calls.py ma
 """
 
 import itertools
-import json
-import pathlib
 import random
 
 import formula
 import sheet
-
-SAMPLES = pathlib.Path(__file__).parent.parent / "tests" / "samples" / "formulas.jsonl"
+from samples import objects
 
 LEAST, GREATEST = -(2**63), 2**63 - 1
 LIMIT = formula.LITERAL_LIMIT
@@ -31,8 +28,7 @@ ENDS = [(4096, 8192), (-512, 512), (1, 3), (-LIMIT, LIMIT), (0, 0), (7, 4096)]
 def sample_cases():
     """What is stored of another implementation's answers, with the refusal and schedule of each: an
     object a line, the text in hexadecimal, ends and steps as far as the counts go."""
-    for line in SAMPLES.read_text().splitlines():
-        call = json.loads(line)
+    for call in objects("formulas.jsonl"):
         ends = [tuple(end) for end in call["ends"][: sheet.INPUTS_LIMIT]]
         ends += [(0, 0)] * (sheet.INPUTS_LIMIT - len(ends))
         case = call["inputs"], call["squares"], ends, bytes.fromhex(call["text"])

@@ -25,8 +25,10 @@ class Draft:
         self.squares = squares
         self.ends = [sheet.Ends(*end) for end in ends]
         self.steps = []
-        self.rows = [rows.input_row(*end, number) for number, end in enumerate(self.ends, 1)]
+        self.rows = []
         self.refused = False
+        for row in range(1, len(self.ends) + 1):
+            self.work(row)
 
     def last(self) -> int:
         """The number of the last row."""
@@ -39,14 +41,14 @@ class Draft:
         """Adds a step and answers its row number."""
         self.steps.append(sheet.Step(code, first, second, value))
         if not self.refused:
-            self.work_last()
+            self.work(self.last())
         return self.last()
 
-    def work_last(self) -> None:
+    def work(self, row) -> None:
         counts = sheet.Counts(len(self.ends), self.squares, len(self.steps))
         drafted = sheet.Schedule(counts, self.ends, self.steps)
         try:
-            self.rows.append(evaluation.input_or_step_row(drafted, self.last(), self.rows))
+            self.rows.append(evaluation.work_row(drafted, row, self.rows))
         except rows.RowRefusal:
             self.refused = True
 
@@ -130,13 +132,23 @@ def touching_zero(rng):
     return rng.choice(((0, far), (-far, 0), (1, far + 1), (-far - 1, -1)))
 
 
+def odd_sum(rng):
+    """Ends whose sum is odd, so that the form reaches one below the low end: next to each other or
+    apart, near 0 or far from it."""
+    near = rng.choice((0, 1, 1, 2, rng.randint(1, 9), magnitude(rng)))
+    far = near + rng.choice((1, 1, 1, 3, 2 * rng.randint(0, near) + 1))
+    if far > LIMIT:
+        near, far = LIMIT - 1, LIMIT
+    return (near, far) if rng.random() < 0.6 else (-far, -near)
+
+
 def at_the_limits(rng):
     ends = [rng.choice((-LIMIT, -LIMIT + 1, -1, 0, 1, LIMIT - 1, LIMIT)) for _ in range(2)]
     return tuple(sorted(ends))
 
 
 ENDS = [
-    around_zero, symmetric, one_sided, near_one, near_one, at_zero_width, touching_zero,
+    around_zero, symmetric, one_sided, near_one, near_one, at_zero_width, touching_zero, odd_sum,
     at_the_limits,
 ]
 
@@ -251,8 +263,7 @@ def range_at_zero(rng) -> Draft:
     """A row shifted so that an end of its range is -1, 0 or 1, and then its reciprocal."""
     draft = accepted(rng, rng.randint(1, 6))
     chosen = rng.randint(1, draft.last())
-    row = draft.rows[chosen - 1]
-    end = rng.choice((rows.low(row), rows.high(row)))
+    end = rng.choice(draft.rows[chosen - 1].own_range)
     shift = draft.constant(max(-LIMIT, min(LIMIT, end + rng.randint(-1, 1))))
     shifted = draft.step(rng.choice((3, 3, 3, 2)), chosen, shift)
     if rng.random() < 0.3:
@@ -284,8 +295,7 @@ def large_squares(rng) -> Draft:
         product = draft.multiply(rng.randint(1, inputs), rng.randint(1, inputs))
         total = draft.step(rng.choice((2, 3)), total, product)
     if not draft.refused:
-        row = draft.rows[total - 1]
-        end = rng.choice((rows.low(row), rows.high(row)))
+        end = rng.choice(draft.rows[total - 1].own_range)
         gap = rng.choice((-1, 1)) * rng.randint(0, 1 << rng.randint(0, 20))
         total = draft.subtract(total, draft.constant(max(-LIMIT, min(LIMIT, end + gap))))
     draft.reciprocal(total)
@@ -300,15 +310,37 @@ def reciprocal_chain(rng) -> Draft:
     return draft
 
 
+SMALL_ENDS = [
+    (1, 1), (1, 2), (1, 3), (1, 4), (2, 3), (3, 8), (-1, -1), (-2, -1), (-3, -1), (-3, -2), (-9, -4),
+]
+
+
 def small_divisors(rng) -> Draft:
     """Reciprocals of rows with tiny or huge centres, and products of the results."""
-    draft = Draft(1, [rng.choice(((1, 3), (-3, -1), (2, 3), (1, 1), (-1, -1), (3, 8), (-9, -4)))])
+    draft = Draft(1, [rng.choice(SMALL_ENDS)])
     draft.reciprocal(draft.constant(rng.choice((-1, 1)) * rng.randint(1, 9)))
     draft.reciprocal(draft.constant(rng.choice((-1, 1)) * rng.randint(2**23, LIMIT)))
     draft.reciprocal(1)
     for _ in range(rng.randint(1, 8)):
         add_accepted_step(rng, draft)
     return draft
+
+
+def odd_ends(rng) -> Draft:
+    """Reciprocals of inputs whose ends have an odd sum, beside those of a sum with 0, which has the
+    same form and its range; products that give the operand back."""
+    draft = any_draft(rng, odd_sum)
+    zero = draft.constant(0)
+    for number in range(1, len(draft.ends) + 1):
+        operand = number if rng.random() < 0.7 else draft.add(number, zero)
+        inverse = draft.reciprocal(operand)
+        if draft.refused and rng.random() < 0.9:
+            draft.undo()
+        elif not draft.refused and rng.random() < 0.5:
+            draft.multiply(operand, inverse)
+        if draft.refused:
+            break
+    return then_anything(rng, draft)
 
 
 def cancellation(rng) -> Draft:
@@ -340,7 +372,7 @@ def long_products(rng) -> Draft:
 
 EXTREMES = [
     limit_ends, span_by_sums, span_by_product, range_at_zero, large_squares, mixed_pairs,
-    reciprocal_chain, small_divisors, cancellation, long_products,
+    reciprocal_chain, small_divisors, odd_ends, cancellation, long_products,
 ]
 
 

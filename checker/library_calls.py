@@ -6,39 +6,43 @@ writes `data/calls` and `stdout` into the folder given.
 
 `data/calls` is a row of fields of 17 bytes: 16 hexadecimal digits (0 to 9, a to f), which are the 64
 bits of an i64 or a usize, most significant first, and one byte that means nothing (a space, or
-byte 10 behind the last field of a call). The program keeps a table of at most 1,612 i64, of which
-it lends the first so many, and one schedule; at the start both are all 0 and the table lends
-nothing. A call is a code and its arguments, each one field:
+byte 10 behind the last field of a call). The program keeps a table of at most 1,612 i64, a table of
+ranges of at most 70 i64, of each of which it lends the first so many, and one schedule; at the start
+all three are all 0 and the tables lend nothing. A call is a code and its arguments, each one field:
 
     1 LENGTH FILL         the table lends LENGTH numbers (at most 1,612), each of them FILL
     2 PLACE VALUE         number PLACE of the table, from 0 and below its length, becomes VALUE
     3 and 111 numbers     the schedule: inputs squares steps, 6 times low high, 24 times step first
                           second value
-    4                     evaluate the schedule into the table; prints `evaluate NUMBER PLACE` and
-                          a line `table` with every number lent, afterwards
+    4                     evaluate the schedule into both tables; prints `evaluate NUMBER PLACE` and
+                          both tables, afterwards
     5 COUNT ROW           prints `range NUMBER PLACE LOW HIGH`
-    6 COUNT ROW           prints `row` with every number of the part handed back
+    6 COUNT ROW           prints `row` with the numbers of the part handed back
     7 COUNT FIRST SECOND  prints `same NUMBER PLACE YES`, where YES is 1 or 0
     8 LENGTH              write the schedule into LENGTH bytes (at most 700), each `?` before;
-                          prints `write NUMBER PLACE LENGTH_OF_SHEET`, then the bytes lent as they
-                          are afterwards, and byte 10
+                          prints `write NUMBER PLACE LENGTH_OF_SHEET` and the bytes, afterwards
     9 LENGTH ROOM         and behind these fields LENGTH bytes of a sheet (at most 1,100), as they
-                          are, and byte 10: list the sheet into the table and ROOM bytes of text
+                          are, and byte 10: list the sheet into both tables and ROOM bytes of text
                           (at most 4,200), each `?` before; prints `list NUMBER PLACE
-                          LENGTH_OF_TEXT`, then the bytes lent as they are afterwards, and byte 10,
-                          then a line `table` with every number lent, afterwards
+                          LENGTH_OF_TEXT`, the bytes and both tables, afterwards
     10 and 14 numbers     inputs squares, 6 times low high: these of the schedule are replaced
     11 LENGTH             and behind this field LENGTH bytes of a formula (at most 700), as they
                           are, and byte 10: read the formula over the inputs, squares and ends of
                           the schedule, which stays; prints `formula NUMBER PLACE INPUTS SQUARES
                           STEPS`, and behind them ` end I LOW HIGH` and ` step J STEP FIRST SECOND
                           VALUE` for each of the 6 ends and 24 steps that is not all zeros
+    12 LENGTH FILL        the table of ranges lends LENGTH numbers (at most 70), each of them FILL
+    13 PLACE VALUE        number PLACE of the table of ranges, from 0 and below its length, becomes
+                          VALUE
     0                     the end
 
 Here a call is a tuple of its code and its arguments; that of a 9 is (9, SHEET, ROOM), and that of an
 11 is (11, TEXT).
 
-Every printed number is decimal, has one space before it, and every line ends in byte 10.
+Every printed number is decimal, has one space before it, and every line ends in byte 10. Both tables
+are a line `table` and a line `ranges` with every number lent. There and behind `row`, numbers that
+follow each other and are equal stand as one, ` VALUExCOUNT`. Bytes lent are printed without those
+`?` that end them, then byte 10, and a line `left COUNT` with the number of these.
 """
 
 import itertools
@@ -49,12 +53,17 @@ import formula
 import formula_cases
 import listing
 import rows
+import samples
 import sheet
 import stored
 
-END, TABLE, PUT, SCHEDULE, EVALUATE, RANGE, ROW, SAME, WRITE, LIST, INPUTS, FORMULA = range(12)
+(
+    END, TABLE, PUT, SCHEDULE, EVALUATE, RANGE, ROW, SAME, WRITE, LIST, INPUTS, FORMULA, RANGES,
+    PUT_END,
+) = range(14)
 
 TABLE_ROOM = 1_612
+RANGES_ROOM = 70
 WRITE_ROOM = 700
 SHEET_ROOM = 1_100
 LIST_ROOM = 4_200
@@ -62,6 +71,7 @@ FORMULA_ROOM = 700
 LEAST, GREATEST = -(2**63), 2**63 - 1
 GREATEST_USIZE = 2**64 - 1
 SPAN = rows.SPAN_LIMIT
+ENDS = evaluation.RANGE_NUMBERS
 # The least count whose product with 52 passes 2^64: the product that is kept is 36.
 COUNT_THAT_WRAPS = 2**64 // rows.NUMBERS + 1
 
@@ -89,53 +99,103 @@ def not_zero(schedule):
                 yield from (word, number, *numbers)
 
 
+def runs(numbers):
+    """Numbers as they are printed, equal ones that follow each other as one."""
+    for value, equal in itertools.groupby(numbers):
+        count = len([*equal])
+        yield f"{value}x{count}" if count > 1 else f"{value}"
+
+
 class Library:
     """Makes the calls with the checker's own library and keeps what is printed."""
 
     def __init__(self):
         self.table = []
+        self.ranges = []
         self.schedule = sheet.ZEROS
         self.printed = []
 
     def line(self, word, *numbers):
         self.printed.append(" ".join([word, *map(str, numbers)]).encode() + b"\n")
 
-    def make(self, code, *arguments):
-        if code == TABLE:
-            length, fill = arguments
-            self.table = [fill] * length
-        elif code == PUT:
-            place, value = arguments
-            self.table[place] = value
-        elif code == SCHEDULE:
-            self.schedule = schedule_of(arguments)
-        elif code == EVALUATE:
-            self.line("evaluate", *evaluation.evaluate(self.schedule, self.table))
-            self.line("table", *self.table)
-        elif code == RANGE:
-            self.line("range", *evaluation.row_range(self.table, *arguments))
-        elif code == ROW:
-            self.line("row", *evaluation.row_part(self.table, *arguments))
-        elif code == SAME:
-            self.line("same", *map(int, evaluation.same_rows(self.table, *arguments)))
-        elif code == WRITE:
-            out = bytearray(b"?" * arguments[0])
-            self.line("write", *sheet.write(self.schedule, out))
-            self.printed.append(bytes(out) + b"\n")
-        elif code == LIST:
-            data, room = arguments
-            text = bytearray(b"?" * room)
-            self.line("list", *listing.list_into(data, self.table, text))
-            self.printed.append(bytes(text) + b"\n")
-            self.line("table", *self.table)
-        elif code == INPUTS:
-            numbers = flat(self.schedule)
-            numbers[:2], numbers[3:15] = arguments[:2], arguments[2:]
-            self.schedule = schedule_of(numbers)
-        elif code == FORMULA:
-            inputs, squares, _ = self.schedule.counts
-            answer = formula.read(inputs, squares, self.schedule.ends, *arguments)
-            self.line("formula", *answer[:2], *answer.schedule.counts, *not_zero(answer.schedule))
+    def tables(self):
+        self.line("table", *runs(self.table))
+        self.line("ranges", *runs(self.ranges))
+
+    def bytes_lent(self, lent):
+        front = bytes(lent).rstrip(b"?")
+        self.printed.append(front + b"\n")
+        self.line("left", len(lent) - len(front))
+
+    def lend_table(self, length, fill):
+        self.table = [fill] * length
+
+    def put(self, place, value):
+        self.table[place] = value
+
+    def lend_ranges(self, length, fill):
+        self.ranges = [fill] * length
+
+    def put_end(self, place, value):
+        self.ranges[place] = value
+
+    def take_schedule(self, *numbers):
+        self.schedule = schedule_of(numbers)
+
+    def take_inputs(self, *block):
+        numbers = flat(self.schedule)
+        numbers[:2], numbers[3:15] = block[:2], block[2:]
+        self.schedule = schedule_of(numbers)
+
+    def evaluate(self):
+        self.line("evaluate", *evaluation.evaluate(self.schedule, self.table, self.ranges))
+        self.tables()
+
+    def range(self, count, row):
+        self.line("range", *evaluation.row_range(self.table, self.ranges, count, row))
+
+    def row(self, count, row):
+        self.line("row", *runs(evaluation.row_part(self.table, count, row)))
+
+    def same(self, count, first, second):
+        self.line("same", *map(int, evaluation.same_rows(self.table, count, first, second)))
+
+    def write(self, length):
+        out = bytearray(b"?" * length)
+        self.line("write", *sheet.write(self.schedule, out))
+        self.bytes_lent(out)
+
+    def list(self, data, room):
+        text = bytearray(b"?" * room)
+        self.line("list", *listing.list_into(data, self.table, self.ranges, text))
+        self.bytes_lent(text)
+        self.tables()
+
+    def formula(self, text):
+        inputs, squares, _ = self.schedule.counts
+        number, place, schedule = formula.read(inputs, squares, self.schedule.ends, text)
+        self.line("formula", number, place, *schedule.counts, *not_zero(schedule))
+
+    def end(self):
+        """Nothing is printed."""
+
+
+METHODS = {
+    END: Library.end,
+    TABLE: Library.lend_table,
+    PUT: Library.put,
+    SCHEDULE: Library.take_schedule,
+    EVALUATE: Library.evaluate,
+    RANGE: Library.range,
+    ROW: Library.row,
+    SAME: Library.same,
+    WRITE: Library.write,
+    LIST: Library.list,
+    INPUTS: Library.take_inputs,
+    FORMULA: Library.formula,
+    RANGES: Library.lend_ranges,
+    PUT_END: Library.put_end,
+}
 
 
 GOOD = sheet.schedule(
@@ -198,33 +258,54 @@ def hostile_schedules():
     yield changed({step_place(2, 3): 1, step_place(5, 0): 6})
 
 
+def lent(table_length, fill, ranges_length, ranges_fill):
+    """Both tables, each of one number."""
+    yield TABLE, table_length, fill
+    yield RANGES, ranges_length, ranges_fill
+
+
+def evaluated(table_length, fill, ranges_length, ranges_fill):
+    """The schedule evaluated into fresh tables."""
+    yield from lent(table_length, fill, ranges_length, ranges_fill)
+    yield EVALUATE,
+
+
+def put_row(row, numbers, ends):
+    """Numbers of a row, by their places in it, and its ends in the table of ranges."""
+    for place, value in numbers.items():
+        yield PUT, rows.NUMBERS * (row - 1) + place, value
+    for place, value in enumerate(ends):
+        yield PUT_END, ENDS * (row - 1) + place, value
+
+
 def calls_on_schedules():
-    """Each hostile schedule, with a table and bytes that suffice, and with ones that are empty."""
-    for numbers in hostile_schedules():
-        yield SCHEDULE, *numbers
-        yield TABLE, rows.NUMBERS * GOOD_ROWS, -3
-        yield EVALUATE,
-        yield TABLE, 0, 0
-        yield EVALUATE,
+    """Each hostile schedule, with tables and bytes that suffice, and with ones that are empty."""
+    numbers, ends = rows.NUMBERS * GOOD_ROWS, ENDS * GOOD_ROWS
+    for hostile in hostile_schedules():
+        yield SCHEDULE, *hostile
+        yield from evaluated(numbers, -3, ends, 5)
+        yield from evaluated(0, 0, 0, 0)
+        yield from evaluated(numbers, -3, 0, 0)
+        yield from evaluated(0, 0, ends, 5)
         yield WRITE, 200
         yield WRITE, 0
 
 
 def calls_on_lengths():
-    """A table one number short, just long enough and longer; bytes likewise."""
-    needed = rows.NUMBERS * GOOD_ROWS
+    """Tables one number short, just long enough and longer, each with the other; bytes likewise."""
+    numbers, ends = rows.NUMBERS * GOOD_ROWS, ENDS * GOOD_ROWS
+    lengths = (0, 1, 51, 52, numbers - 1, numbers, numbers + 1, numbers + 52)
+    ranges_lengths = (0, 1, 2, ends - 2, ends - 1, ends, ends + 1, ends + 2)
     yield SCHEDULE, *flat(GOOD)
-    for fill in (0, 7, LEAST, GREATEST):
-        for length in (0, 1, 51, 52, needed - 1, needed, needed + 1, needed + 52):
-            yield TABLE, length, fill
-            yield EVALUATE,
+    for fill, ranges_fill in ((0, 0), (7, -8), (LEAST, GREATEST), (GREATEST, LEAST)):
+        for length, ranges_length in itertools.product(lengths, ranges_lengths):
+            yield from evaluated(length, fill, ranges_length, ranges_fill)
     sheet_length = len(sheet.text(GOOD))
     for length in (0, 1, sheet_length - 1, sheet_length, sheet_length + 1, WRITE_ROOM):
         yield WRITE, length
     yield SCHEDULE, *flat(LARGEST)
-    for length in (1559, 1560, TABLE_ROOM):
-        yield TABLE, length, 1
-        yield EVALUATE,
+    for length, ranges_length in itertools.product((1559, 1560, TABLE_ROOM), (59, 60, RANGES_ROOM)):
+        yield from evaluated(length, 1, ranges_length, 2)
     for length in (600, 601, 602):
         yield WRITE, length
 
@@ -236,8 +317,27 @@ def calls_on_refused_rows():
             steps = [(1, 0, 0, 2**28)] * (row - 3) + [refused_step]
             steps += [(2, 1, 1, 0)] * (GOOD_ROWS - row)
             yield SCHEDULE, *flat(sheet.schedule(1, [(-5, 6), (-(2**28), 2**28)], steps))
-            yield TABLE, rows.NUMBERS * GOOD_ROWS + 3, 11
-            yield EVALUATE,
+            yield from evaluated(rows.NUMBERS * GOOD_ROWS + 3, 11, ENDS * GOOD_ROWS + 3, 12)
+
+
+# Ends of odd and of even sum, on either side of 0 and at it.
+SMALL_ENDS = [
+    (0, 1), (-1, 0), (1, 2), (-2, -1), (2, 3), (-3, -2), (1, 3), (-3, -1), (1, 4), (-4, -1), (3, 4),
+    (3, 8), (-9, -4), (0, 0), (1, 1), (-1, -1), (-1, 1), (-1, 2), (4096, 8191), (-8191, -4096),
+    (2**28 - 1, 2**28), (-(2**28), 1 - 2**28),
+]
+
+
+def calls_on_small_ends():
+    """Reciprocals of inputs, which go by the ends, and of the same forms as sums with 0, which go by
+    the form; every row's range asked for."""
+    for ends, squares in itertools.product(SMALL_ENDS, (0, 1)):
+        for steps in ([(5, 1, 0, 0), (4, 1, 2, 0)], [(1, 0, 0, 0), (2, 1, 2, 0), (5, 3, 0, 0)]):
+            count = 1 + len(steps)
+            yield SCHEDULE, *flat(sheet.schedule(squares, [ends], steps))
+            yield from evaluated(rows.NUMBERS * count, 76, ENDS * count, 77)
+            for row in range(1, count + 1):
+                yield RANGE, count, row
 
 
 def asking(counts, asked):
@@ -262,18 +362,63 @@ def calls_on_counts_and_rows():
         (1560, 20_648_881), (1560, 20_648_882), (1560, -20_648_881), (1560, -20_648_882),
         (1560, LEAST), (1560, GREATEST), (TABLE_ROOM, 1),
     ]:
-        yield TABLE, length, fill
+        yield from lent(length, fill, 60, -9)
         yield from asking(COUNTS, ROWS)
         for first, second in [(1, 2), (2, 1), (0, 1), (1, 0), (1, 31), (30, 1), (1, 30), (31, 0)]:
             for count in (2, 29, 30, 31):
                 yield SAME, count, first, second
 
 
+def calls_on_lent_ranges():
+    """Counts and rows of any value, tables of ranges empty, one number short and full of one number,
+    beside a table that suffices, one that is short, and one over the span."""
+    for length, fill in [(1560, 3), (1559, 3), (TABLE_ROOM, 3), (1560, SPAN)]:
+        for ranges_length, ranges_fill in [
+            (0, 0), (1, 0), (2, 0), (3, -1), (4, 5), (57, 0), (58, 6), (59, 0), (60, LEAST),
+            (60, GREATEST), (61, 0), (RANGES_ROOM, 1),
+        ]:
+            yield from lent(length, fill, ranges_length, ranges_fill)
+            for count, row in itertools.product([*COUNTS, 29], ROWS):
+                yield RANGE, count, row
+
+
+# Low and high as no evaluation leaves them, and as one does; differences that pass 2^31, 2^32 and
+# 2^63.
+LENT_ENDS = [
+    (0, 0), (0, 1), (1, 0), (-1, 0), (0, -1), (-1, -2), (-2, -1), (7, 7), (8, 7), (LEAST, LEAST),
+    (GREATEST, GREATEST), (LEAST, GREATEST), (GREATEST, LEAST), (LEAST, LEAST + 1),
+    (LEAST + 1, LEAST), (GREATEST - 1, GREATEST), (GREATEST, GREATEST - 1), (LEAST, 0), (0, LEAST),
+    (0, GREATEST), (GREATEST, 0), (-1, GREATEST), (GREATEST, -1), (-(2**62), 2**62),
+    (2**62, -(2**62)), (-(2**31), 2**31), (2**31, -(2**31)), (2**32, 0), (0, 2**32),
+    (2**32, 2**33 - 1), (SPAN, SPAN + 1), (-SPAN - 1, -SPAN),
+]
+
+
+def calls_on_lent_ends():
+    """Any ends put into the second table, at the first, a middle and the last row of it: they are
+    told as they stand, or refused where low is above high, whatever the row's numbers make and
+    whatever stands beside them; a row over the span is refused whatever its ends."""
+    for ends, row in itertools.product(LENT_ENDS, (1, 2, 3)):
+        yield from lent(156, 0, 6, 4)
+        yield from put_row(row, {0: 40, 1: -2, 31: 1}, ends)
+        for asked in (1, 2, 3):
+            yield RANGE, 3, asked
+        yield RANGE, row, row
+        yield SAME, 3, 1, row
+        yield ROW, 3, row
+    for ends, value in itertools.product([(0, 0), (1, 0), (LEAST, GREATEST)], (SPAN, SPAN + 1)):
+        yield from lent(104, 0, 4, 0)
+        yield from put_row(2, {17: value}, ends)
+        yield RANGE, 2, 1
+        yield RANGE, 2, 2
+        yield RANGE, 1, 2
+
+
 def calls_on_spans():
     """A row over the span by each of its numbers; sums that pass 2^63 and 2^64."""
     for place in range(rows.NUMBERS):
         for value in (SPAN, -SPAN, SPAN + 1, -SPAN - 1, LEAST):
-            yield TABLE, 104, 0
+            yield from lent(104, 0, 4, 6)
             yield PUT, 52 + place, value
             yield RANGE, 2, 2
             yield SAME, 2, 2, 1
@@ -289,9 +434,8 @@ def calls_on_spans():
         {0: -SPAN + 2, 1: 1, 31: -1},
         {0: -SPAN + 2, 1: -2, 31: -1},
     ]:
-        yield TABLE, 52, 0
-        for place, value in group.items():
-            yield PUT, place, value
+        yield from lent(52, 0, 2, 0)
+        yield from put_row(1, group, (-5, 6))
         yield RANGE, 1, 1
         yield ROW, 1, 1
         yield SAME, 1, 1, 1
@@ -299,24 +443,31 @@ def calls_on_spans():
 
 def calls_on_comparison():
     """Rows that differ in one number, or in numbers of equal ranges; rows over the span, the lower
-    one first."""
+    one first. What the table of ranges lends, nothing or other ends, does not matter."""
     for place in range(rows.NUMBERS):
-        yield TABLE, 156, 3
+        yield from lent(156, 3, 0, 0)
         yield PUT, 52 + place, 4
         for first, second in ((1, 2), (2, 1), (1, 3), (2, 2)):
             yield SAME, 3, first, second
     for first_place, second_place, value in ((7, 8, 3), (7, 7, -3), (7, 32, 3), (30, 36, -3)):
         # The ranges agree, the numbers do not.
-        yield TABLE, 104, 0
-        yield PUT, first_place, 3
-        yield PUT, 52 + second_place, value
+        yield from lent(104, 0, 4, 0)
+        yield from put_row(1, {first_place: 3}, (-3, 3))
+        yield from put_row(2, {second_place: value}, (-3, 3))
         yield SAME, 2, 1, 2
         yield RANGE, 2, 1
         yield RANGE, 2, 2
+    for first_ends, second_ends in (((0, 1), (0, 2)), ((1, 0), (0, 1)), ((0, 0), (2, 1))):
+        # The numbers agree, the ranges do not.
+        yield from lent(104, 1, 4, 0)
+        yield from put_row(1, {}, first_ends)
+        yield from put_row(2, {}, second_ends)
+        yield SAME, 2, 1, 2
+        yield ROW, 2, 1
     for over in itertools.product((0, SPAN + 1), repeat=3):
-        yield TABLE, 156, 0
-        for row, value in enumerate(over):
-            yield PUT, 52 * row + 5, value
+        yield from lent(156, 0, 6, 0)
+        for row, value in enumerate(over, 1):
+            yield from put_row(row, {5: value}, (-5, 6))
         for first, second in itertools.product((1, 2, 3), repeat=2):
             yield SAME, 3, first, second
         yield SAME, 2, 3, 1
@@ -325,31 +476,36 @@ def calls_on_comparison():
 
 
 def calls_on_an_evaluated_table():
-    """Every row of an accepted evaluation asked for."""
+    """Every row of an accepted evaluation asked for; then again with its low end put to its high
+    end, and above it."""
     yield SCHEDULE, *flat(GOOD)
-    yield TABLE, 400, 5
-    yield EVALUATE,
+    yield from evaluated(400, 5, 20, 3)
     yield from asking([GOOD_ROWS], range(GOOD_ROWS + 2))
     for first, second in itertools.product(range(1, GOOD_ROWS + 1), repeat=2):
         yield SAME, GOOD_ROWS, first, second
+    for row, worked in enumerate(evaluation.work(GOOD).rows, 1):
+        for low in (worked.answered_range.high, worked.answered_range.high + 1):
+            yield from put_row(row, {}, (low,))
+            yield from asking([GOOD_ROWS], (1, row))
 
 
-def listed(data, table_length, fill, room=listing.TEXT_ROOM):
-    """A sheet listed into a fresh table."""
-    yield TABLE, table_length, fill
+def listed(data, tables, room=listing.TEXT_ROOM):
+    """A sheet listed into fresh tables."""
+    yield from lent(*tables)
     yield LIST, data, room
 
 
-# Two rows; their ends have either sign, and low and high differ in digits too.
-SHORT = sheet.text(sheet.schedule(1, [(-300, 20)], [(3, 1, 1, 0)]))
+# Two rows; their ends have either sign, and low and high differ in digits too; the sum is odd.
+SHORT = sheet.text(sheet.schedule(1, [(-300, 21)], [(3, 1, 1, 0)]))
 SHORT_NUMBERS = 2 * rows.NUMBERS
+SHORT_ENDS = 2 * ENDS
 
 # Each is refused, by 1 to 7 in turn: the last two after one row or more.
 REFUSED = [
     SHORT + b"\n" * (1025 - len(SHORT)),
     SHORT[:-1],
     SHORT.replace(b"1 1 1\n", b"1 2 1\n"),
-    SHORT.replace(b"-300 20\n", b"21 20\n"),
+    SHORT.replace(b"-300 21\n", b"22 21\n"),
     SHORT.replace(b"3 1 1 0\n", b"3 1 2 0\n"),
     sheet.text(sheet.schedule(0, [(5, 2**28)], [(4, 1, 1, 0)])),
     sheet.text(sheet.schedule(0, [(-5, 6)], [(1, 0, 0, -9), (5, 1, 0, 0), (2, 1, 1, 0)])),
@@ -360,49 +516,73 @@ def listings_into_lent_bytes():
     """Too few bytes, just enough and more: for a sheet that is listed, and, of the rooms that are
     too small, for sheets and tables that would be refused otherwise."""
     for room in (0, 1, 4095, 4096, 4097, LIST_ROOM):
-        yield from listed(SHORT, SHORT_NUMBERS + 1, 7, room)
+        yield from listed(SHORT, (SHORT_NUMBERS + 1, 7, SHORT_ENDS + 1, 8), room)
     for data in (b"", REFUSED[0], REFUSED[1], REFUSED[6]):
-        yield from listed(data, SHORT_NUMBERS, -7, 4095)
-    yield from listed(SHORT, SHORT_NUMBERS - 1, LEAST, 1)
+        yield from listed(data, (SHORT_NUMBERS, -7, SHORT_ENDS, -8), 4095)
+    yield from listed(SHORT, (SHORT_NUMBERS - 1, LEAST, SHORT_ENDS, 0), 1)
+    yield from listed(SHORT, (SHORT_NUMBERS, LEAST, SHORT_ENDS - 1, 0), 1)
 
 
 def listings_into_lent_tables():
-    """Tables empty, one number short, just long enough and longer, of any numbers."""
-    for fill in (0, 7, LEAST, GREATEST):
-        for length in (0, SHORT_NUMBERS - 1, SHORT_NUMBERS, SHORT_NUMBERS + 26):
-            yield from listed(SHORT, length, fill)
-    for length in (0, rows.NUMBERS * 30 - 1):
-        yield from listed(sheet.text(LARGEST), length, 1)
+    """Tables empty, one number short, just long enough and longer, of any numbers, each with the
+    other."""
+    lengths = (0, SHORT_NUMBERS - 1, SHORT_NUMBERS, SHORT_NUMBERS + 26)
+    ranges_lengths = (0, SHORT_ENDS - 1, SHORT_ENDS, SHORT_ENDS + 3)
+    for fill, ranges_fill in ((0, 0), (7, -8), (LEAST, GREATEST), (GREATEST, LEAST)):
+        for length, ranges_length in itertools.product(lengths, ranges_lengths):
+            yield from listed(SHORT, (length, fill, ranges_length, ranges_fill))
+    for length, ranges_length in ((0, 60), (1559, 60), (1560, 59), (1560, 0)):
+        yield from listed(sheet.text(LARGEST), (length, 1, ranges_length, 2))
 
 
 def listings_of_refused_sheets():
-    """Each cause, with a table that is long enough, and with none: reading comes before the table,
-    and the table before the rows."""
+    """Each cause, with tables that are long enough, and with one that is none: reading comes before
+    the tables, and the tables before the rows."""
     for data in REFUSED:
-        yield from listed(data, 4 * rows.NUMBERS, 11)
+        yield from listed(data, (4 * rows.NUMBERS, 11, 4 * ENDS, 12))
     for data in REFUSED[1:]:
-        yield from listed(data, 0, 0)
+        yield from listed(data, (0, 0, 4 * ENDS, 12))
+        yield from listed(data, (4 * rows.NUMBERS, 11, 0, 0))
 
 
 def listings_of_any_bytes():
     """Sheets of no byte and of the most bytes, and more than the most."""
     for data in (b"", b"\n", b"\0" * 1024, SHORT + b"\n" * (1024 - len(SHORT)), b"?" * SHEET_ROOM):
-        yield from listed(data, 3, GREATEST)
+        yield from listed(data, (3, GREATEST, 2, LEAST))
 
 
 def listings_of_good_sheets():
-    """Rows of every kind, rows that are the same as several before, the widest numbers, 30 rows."""
+    """Rows of every kind, ends of odd sum with their reciprocals, rows that are the same as several
+    before, the widest numbers, 30 rows."""
     widest = [(-(2**28), 2**28), (-(2**28), -(2**28))]
     sums = [(2, 1, 1, 0), (2, 3, 3, 0), (3, 2, 3, 0), (2, 2, 2, 0), (2, 6, 6, 0)]
     again = [(1, 0, 0, -7), (3, 1, 1, 0), (1, 0, 0, -7), (1, 0, 0, -7), (3, 2, 2, 0), (2, 3, 4, 0)]
+    odd = [(5, 1, 0, 0), (5, 2, 0, 0), (5, 3, 0, 0), (4, 1, 4, 0), (2, 2, 2, 0)]
     for data, fill in [
         (listing.EXAMPLE_SHEET, LEAST),
         (sheet.text(GOOD), GREATEST),
         (sheet.text(sheet.schedule(0, widest, sums)), 7),
         (sheet.text(sheet.schedule(2, [(-5, 6), (-6, 5)], again)), 7),
+        (sheet.text(sheet.schedule(3, [(1, 2), (-2, -1), (3, 8)], odd)), -4),
     ]:
-        yield from listed(data, rows.NUMBERS * 8, fill)
-    yield from listed(sheet.text(LARGEST), TABLE_ROOM, -1)
+        yield from listed(data, (rows.NUMBERS * 8, fill, ENDS * 8, -1 - fill))
+    yield from listed(sheet.text(LARGEST), (TABLE_ROOM, -1, RANGES_ROOM, -2))
+
+
+def sampled_evaluations():
+    """The schedules of another implementation's samples, evaluated."""
+    for sample in samples.evaluations():
+        yield SCHEDULE, *flat(sample.schedule)
+        yield from evaluated(sample.lengths[0], sample.fill, sample.lengths[1], sample.fill)
+
+
+def sampled_ranges():
+    """The tables of another implementation's samples, and a row asked for."""
+    for sample in samples.ranges():
+        yield from lent(len(sample.table), 0, len(sample.ranges), 0)
+        for code, numbers in ((PUT, sample.table), (PUT_END, sample.ranges)):
+            yield from ((code, place, value) for place, value in enumerate(numbers) if value)
+        yield RANGE, sample.count, sample.row
 
 
 def formulas_read():
@@ -418,10 +598,11 @@ def formulas_read():
 
 def calls() -> list[tuple]:
     groups = (
-        calls_on_schedules, calls_on_lengths, calls_on_refused_rows, calls_on_counts_and_rows,
-        calls_on_spans, calls_on_comparison, calls_on_an_evaluated_table, listings_into_lent_bytes,
-        listings_into_lent_tables, listings_of_refused_sheets, listings_of_any_bytes,
-        listings_of_good_sheets, formulas_read,
+        calls_on_schedules, calls_on_lengths, calls_on_refused_rows, calls_on_small_ends,
+        calls_on_counts_and_rows, calls_on_lent_ranges, calls_on_lent_ends, calls_on_spans,
+        calls_on_comparison, calls_on_an_evaluated_table, sampled_evaluations, sampled_ranges,
+        listings_into_lent_bytes, listings_into_lent_tables, listings_of_refused_sheets,
+        listings_of_any_bytes, listings_of_good_sheets, formulas_read,
     )
     return [call for group in groups for call in group()] + [(END,)]
 
@@ -443,8 +624,8 @@ def encoded(call) -> bytes:
 
 def expected(every) -> bytes:
     library = Library()
-    for call in every:
-        library.make(*call)
+    for code, *arguments in every:
+        METHODS[code](library, *arguments)
     return b"".join(library.printed)
 
 

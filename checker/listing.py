@@ -11,6 +11,7 @@ import rows
 import sheet
 
 TABLE_LENGTH = 1_560
+RANGES_LENGTH = 60
 TEXT_ROOM = 4_096
 
 # "This one is (x + 1)² - 2x"; "and it prints"
@@ -54,42 +55,42 @@ def first_same_row(table, row: int) -> int:
     return 0
 
 
-def listing_line(table, count: int, row: int) -> bytes:
-    """"row low high own same"; "Own is the own coefficient"."""
-    low, high = evaluation.row_range(table, count, row)[2:]
+def listing_line(table, ranges, count: int, row: int) -> bytes:
+    """"row low high own same"; "Own is the own coefficient". Low and high are those answered."""
+    low, high = evaluation.row_range(table, ranges, count, row)[2:]
     own = evaluation.row_part(table, count, row)[row]
     return b"%d %d %d %d %d\n" % (row, low, high, own, first_same_row(table, row))
 
 
-def printed_text(data: bytes, table: list) -> bytes:
-    """The listing of a sheet evaluated into a lent table, which evaluation leaves as it leaves it,
-    or the refusal of reading or evaluation, a table too short among them."""
+def printed_text(data: bytes, table: list, ranges: list) -> bytes:
+    """The listing of a sheet evaluated into two lent tables, which evaluation leaves as it leaves
+    them, or the refusal of reading or evaluation, a table too short among them."""
     answer = sheet.read(data)
     if answer.number:
         return refusal_text(answer.number, answer.place)
-    refusal = evaluation.evaluate(answer.schedule, table)
+    refusal = evaluation.evaluate(answer.schedule, table, ranges)
     if refusal.number:
         return refusal_text(*refusal)
-    count = answer.schedule.counts.inputs + answer.schedule.counts.steps
-    lines = [listing_line(table, count, row) for row in range(1, count + 1)]
+    count = evaluation.row_count(answer.schedule)
+    lines = [listing_line(table, ranges, count, row) for row in range(1, count + 1)]
     return b"row low high own same\n" + b"".join(lines)
 
 
-def list_into(data: bytes, table: list, text: bytearray) -> sheet.WriteAnswer:
+def list_into(data: bytes, table: list, ranges: list, text: bytearray) -> sheet.WriteAnswer:
     """The call of the library: the text at the start of the lent bytes, every byte behind it as it
     was; fewer than 4,096 bytes are 8 at place 0, and nothing is touched."""
     if len(text) < TEXT_ROOM:
         return sheet.WriteAnswer(8, 0, 0)
-    printed = printed_text(data, table)
+    printed = printed_text(data, table, ranges)
     text[: len(printed)] = printed
     return sheet.WriteAnswer(0, 0, len(printed))
 
 
 def listing(data: bytes) -> bytes:
     """"It reads a sheet from standard input [...] and it prints"; "The program lends a table of
-    1,560 numbers, all zero at the start."."""
+    1,560 numbers, all zero at the start.", and a table of ranges of 60, all zero too."""
     text = bytearray(TEXT_ROOM)
-    answer = list_into(data, [0] * TABLE_LENGTH, text)
+    answer = list_into(data, [0] * TABLE_LENGTH, [0] * RANGES_LENGTH, text)
     return bytes(text[: answer.length])
 
 
@@ -99,6 +100,7 @@ def files() -> dict[str, bytes]:
 
 
 assert TABLE_LENGTH == rows.NUMBERS * evaluation.ROWS_LIMIT
+assert RANGES_LENGTH == evaluation.RANGE_NUMBERS * evaluation.ROWS_LIMIT
 
 if __name__ == "__main__":
     sys.stdout.buffer.write(listing(sys.stdin.buffer.read()))

@@ -6,8 +6,8 @@ writes `stdout` into the folder given.
 
 One line for each example, its fields separated by one space: the label (`P1`); then `refused 6` or
 `refused 7`, or the 52 numbers of the resulting row (centre, 30 linear coefficients, 21 pair
-coefficients) followed by low and high of its range. P12 and P13, which are in two parts, have a line
-for each part, with `a` and `b` behind the label.
+coefficients) followed by low and high of its range, which are an input's ends. P12 and P13, which
+are in two parts, have a line for each part, with `a` and `b` behind the label.
 
 Which row owns which symbol (row r owns symbol r):
 
@@ -29,26 +29,34 @@ import rows
 import stored
 
 
+def with_form_range(row):
+    return row, rows.form_range(row)
+
+
 def input_alone(low, high):
-    return lambda: rows.input_row(low, high, 1)
+    return lambda: (rows.input_row(low, high, 1), rows.Range(low, high))
 
 
 def product_of_constants(first, second):
-    return lambda: rows.multiply(rows.constant_row(first), rows.constant_row(second), 0, 4)
+    return lambda: with_form_range(
+        rows.multiply(rows.constant_row(first), rows.constant_row(second), 0, 4)
+    )
 
 
 def reciprocal_of_constant(value):
-    return lambda: rows.reciprocal(rows.constant_row(value), 0, 3)
+    return lambda: with_form_range(
+        rows.reciprocal(*with_form_range(rows.constant_row(value)), 0, 3)
+    )
 
 
 def square_of_input(low, high, squares):
-    return lambda: rows.multiply(
-        rows.input_row(low, high, 1), rows.input_row(low, high, 1), squares, 2
+    return lambda: with_form_range(
+        rows.multiply(rows.input_row(low, high, 1), rows.input_row(low, high, 1), squares, 2)
     )
 
 
 def reciprocal_of_input(low, high, squares):
-    return lambda: rows.reciprocal(rows.input_row(low, high, 1), squares, 2)
+    return lambda: with_form_range(rows.reciprocal(*input_alone(low, high)(), squares, 2))
 
 
 EXAMPLES = [
@@ -72,10 +80,10 @@ EXAMPLES = [
 
 def example_line(label, work) -> str:
     try:
-        row = work()
+        row, own_range = work()
     except rows.RowRefusal as refusal:
         return f"{label} refused {refusal.number}"
-    return " ".join(map(str, [label, *row, rows.low(row), rows.high(row)]))
+    return " ".join(map(str, [label, *row, *own_range]))
 
 
 def files() -> dict[str, bytes]:

@@ -5,6 +5,8 @@ numbers: place 0 is the centre, place i the linear coefficient of symbol i, and 
 the pair coefficients in their order.
 """
 
+from typing import NamedTuple
+
 UNIT = 4_096
 N = UNIT * UNIT
 SYMBOLS = 30
@@ -24,6 +26,11 @@ PAIRS_IN_USE = [
     [(place, i, j) for (i, j), place in PAIR_PLACE.items() if j <= squares]
     for squares in range(SQUARES_LIMIT + 1)
 ]
+
+
+class Range(NamedTuple):
+    low: int
+    high: int
 
 
 class RowRefusal(Exception):
@@ -74,6 +81,12 @@ def high(row) -> int:
         + sum(abs(row[place]) for place in MIXED_PLACES)
         + sum(max(row[place], 0) for place in SQUARED_PLACES)
     )
+
+
+def form_range(row) -> Range:
+    """"Range, after formula (8) of source document 000": the range of the form that the 52 numbers
+    make."""
+    return Range(low(row), high(row))
 
 
 def input_row(low_end: int, high_end: int, own: int):
@@ -135,12 +148,12 @@ def multiply(x, y, squares: int, own: int):
     return span_tested(row)
 
 
-def distance_from_zero(row) -> int:
+def distance_from_zero(own_range: Range) -> int:
     """"a the distance of its range from 0"; 7 is "reciprocal where low is at most 0 and high at
     least 0"."""
-    if low(row) <= 0 <= high(row):
+    if own_range.low <= 0 <= own_range.high:
         raise RowRefusal(7)
-    return low(row) if low(row) > 0 else -high(row)
+    return own_range.low if own_range.low > 0 else -own_range.high
 
 
 def candidate(x, squares: int):
@@ -167,10 +180,10 @@ def candidate_error(x, reciprocal_candidate, squares: int) -> int:
     return absolute_sum(totals) + dropped_part(x, reciprocal_candidate, squares)
 
 
-def reciprocal(x, squares: int, own: int):
+def reciprocal(x, own_range: Range, squares: int, own: int):
     """"Own coefficient: B / a, up."; 7 before 6; "span passed, by a new row, by a candidate
-    alone"."""
-    a = distance_from_zero(x)
+    alone". Test and distance are those of the operand's own range."""
+    a = distance_from_zero(own_range)
     row = span_tested(candidate(x, squares))
     assert row[own] == 0, "an earlier row has no coefficient of a later row's symbol"
     row[own] = up(candidate_error(x, row, squares), a)

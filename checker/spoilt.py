@@ -1,11 +1,12 @@
 """Rows and sheets got wrong in one place at a time: what the checker must be able to notice.
 
-`spoilt(name)` is a context in which one module is wrong in the way named. In
-those of UNSOUND demand 3 fails, and demand3.py must find a sheet where it does. Those of
-OTHER_NUMBERS give other numbers than the specification, those of OTHER_SHEETS read otherwise: the
-generated sheets must tell them from the right ones, and the cases of sheet_cases.py the latter.
-Those of OTHER_CALLS are wrong in `evaluation`, those of OTHER_LISTINGS in `listing` and those of
-OTHER_FORMULAS in `formula`, and the calls of library_calls.py must tell them.
+`spoilt(name)` is a context in which one module is wrong in the way named. In those of UNSOUND, in
+`rows`, and of UNSOUND_RANGES, in `evaluation`, demand 3 fails, and demand3.py must find a sheet
+where it does. Those of OTHER_NUMBERS and OTHER_RANGES give other numbers than the specification,
+those of OTHER_SHEETS read otherwise: the generated sheets must tell them all from the right ones,
+and the cases of sheet_cases.py the last. Those of OTHER_CALLS are wrong in `evaluation`, those of
+OTHER_LISTINGS in `listing` and those of OTHER_FORMULAS in `formula`, and the calls of
+library_calls.py must tell them, and every fault of a range.
 """
 
 import contextlib
@@ -73,14 +74,15 @@ def error_without_dropped_part(x, candidate, squares):
     return REAL["candidate_error"](x, candidate, squares) - rows.dropped_part(x, candidate, squares)
 
 
-def distance_of_centre(row):
-    REAL["distance_from_zero"](row)
-    return abs(row[0])
+def reciprocal_by_centre(x, own_range, squares, own):
+    """The distance is that of the centre."""
+    rows.distance_from_zero(own_range)
+    return REAL["reciprocal"](x, rows.Range(x[0], x[0]), squares, own)
 
 
-def distance_of_far_end(row):
-    REAL["distance_from_zero"](row)
-    return max(abs(rows.low(row)), abs(rows.high(row)))
+def distance_of_far_end(own_range):
+    REAL["distance_from_zero"](own_range)
+    return max(map(abs, own_range))
 
 
 def low_with_pairs_from_0(row):
@@ -255,22 +257,41 @@ def multiply_with_roundings_apart(x, y, squares, own):
     return rows.span_tested(row)
 
 
-def reciprocal_with_6_first(x, squares, own):
+def reciprocal_with_6_first(x, own_range, squares, own):
     if x[0] != 0:
         rows.span_tested(rows.candidate(x, squares))
-    return REAL["reciprocal"](x, squares, own)
+    return REAL["reciprocal"](x, own_range, squares, own)
 
 
-def distance_with_0_at_low(row):
-    if row[0] == 0 or rows.low(row) < 0 <= rows.high(row):
-        raise rows.RowRefusal(7)
-    return rows.low(row) or 1 if rows.low(row) >= 0 else -rows.high(row)
+def reciprocal_with_0_at_low(x, own_range, squares, own):
+    if x[0] != 0 and own_range.low == 0:
+        own_range = own_range._replace(low=1)
+    return REAL["reciprocal"](x, own_range, squares, own)
 
 
-def distance_with_0_at_high(row):
-    if row[0] == 0 or rows.low(row) <= 0 < rows.high(row):
-        raise rows.RowRefusal(7)
-    return rows.low(row) if rows.low(row) > 0 else -rows.high(row) or 1
+def reciprocal_with_0_at_high(x, own_range, squares, own):
+    if x[0] != 0 and own_range.high == 0:
+        own_range = own_range._replace(high=-1)
+    return REAL["reciprocal"](x, own_range, squares, own)
+
+
+def reciprocal_tested_by_form(x, own_range, squares, own):
+    """7 is tested by the form's range, and the distance taken from the operand's own."""
+    rows.distance_from_zero(rows.form_range(x))
+    return REAL["reciprocal"](x, own_range, squares, own)
+
+
+def reciprocal_by_distance_of_form(x, own_range, squares, own):
+    """7 is tested by the operand's own range, and the distance is that of the form, or 1."""
+    rows.distance_from_zero(own_range)
+    low, high = rows.form_range(x)
+    formed = rows.Range(max(low, 1), high) if x[0] > 0 else rows.Range(low, min(high, -1))
+    return REAL["reciprocal"](x, formed, squares, own)
+
+
+def reciprocal_by_form(x, own_range, squares, own):
+    """Test and distance are those of the form."""
+    return REAL["reciprocal"](x, rows.form_range(x), squares, own)
 
 
 def input_centre_toward_zero(low_end, high_end, own):
@@ -280,7 +301,14 @@ def input_centre_toward_zero(low_end, high_end, own):
     return row
 
 
-OTHER_NUMBERS = {
+# Reciprocals by the form of their operand, where the ends of an input decide.
+BY_FORM = {
+    "the test of 7 by the form": {"reciprocal": reciprocal_tested_by_form},
+    "a reciprocal's distance that of the form": {"reciprocal": reciprocal_by_distance_of_form},
+    "a reciprocal by the form alone": {"reciprocal": reciprocal_by_form},
+}
+
+OTHER_NUMBERS = BY_FORM | {
     "a product rounded toward zero": {"multiply": multiply_toward_zero},
     "a candidate rounded toward zero": candidate_by(toward_zero, right_pair),
     "a candidate's pair rounded toward zero": candidate_by(floor, pair_toward_zero),
@@ -299,12 +327,12 @@ OTHER_NUMBERS = {
     "the dropped part of linear absolutes alone": {"dropped_part": dropped_part_linear_only},
     "B from divided totals": {"candidate_error": error_with_totals_divided},
     "B without the centre's total": {"candidate_error": error_with_n_kept},
-    "B divided by the centre": {"distance_from_zero": distance_of_centre},
+    "B divided by the centre": {"reciprocal": reciprocal_by_centre},
     "a product without the centre's remainder": {"multiply": multiply_without_remainder_of_centre},
     "a product with two roundings up": {"multiply": multiply_with_roundings_apart},
     "6 before 7": {"reciprocal": reciprocal_with_6_first},
-    "a reciprocal where low is 0": {"distance_from_zero": distance_with_0_at_low},
-    "a reciprocal where high is 0": {"distance_from_zero": distance_with_0_at_high},
+    "a reciprocal where low is 0": {"reciprocal": reciprocal_with_0_at_low},
+    "a reciprocal where high is 0": {"reciprocal": reciprocal_with_0_at_high},
     "the span limit one more": {"SPAN_LIMIT": rows.SPAN_LIMIT + 1},
     "the span limit one less": {"SPAN_LIMIT": rows.SPAN_LIMIT - 1},
     "an input's centre toward zero": {"input_row": input_centre_toward_zero},
@@ -436,21 +464,72 @@ OTHER_SHEETS = {
 }
 
 
-def asking_refusal_in(order, rows_limit=evaluation.ROWS_LIMIT, wrapping=2**70, rows_order=sorted):
+def narrower_input_range(schedule, row, numbers):
+    """The high end of an input is left out."""
+    low, high = REAL_CALLS["own_range"](schedule, row, numbers)
+    return rows.Range(low, max(low, high - 1) if row <= schedule.counts.inputs else high)
+
+
+def store_numbers_alone(worked, table, ranges):
+    """The second table is left alone."""
+    REAL_CALLS["store"](worked, table, list(ranges))
+
+
+def store_ranges_of_rows_before(worked, table, ranges):
+    """A row's place in the second table has the range of the row before it."""
+    before = [row.answered_range for row in [*worked[:1], *worked]]
+    moved = [row._replace(answered_range=earlier) for row, earlier in zip(worked, before)]
+    REAL_CALLS["store"](moved, table, ranges)
+
+
+def stored_as(change):
+    """The rows are stored with other ranges in the second table."""
+
+    def store(worked, table, ranges):
+        stored = [row._replace(answered_range=change(row)) for row in worked]
+        REAL_CALLS["store"](stored, table, ranges)
+
+    return {"store": store}
+
+
+def range_of_form(schedule, row, numbers):
+    return rows.form_range(numbers)
+
+
+def range_beside_row(table, ranges, count, row):
+    """The range of the row that follows, or of the last."""
+    answer = REAL_CALLS["row_range"](table, ranges, count, row)
+    if answer.number:
+        return answer
+    return evaluation.RangeAnswer(0, 0, *evaluation.ends_of(ranges, min(row + 1, count)))
+
+
+def range_of_first_table(table, ranges, count, row):
+    """The range is worked from the numbers of the first table."""
+    answer = REAL_CALLS["row_range"](table, ranges, count, row)
+    if answer.number:
+        return answer
+    return evaluation.RangeAnswer(0, 0, *rows.form_range(evaluation.numbers_of(table, row)))
+
+
+def refusal_in(order, rows_limit=evaluation.ROWS_LIMIT, wrapping=2**70, rows_order=sorted):
     """The refusal of an asking call with its causes in another order, counts to another limit,
     sums that wrap, or the rows asked for in another order."""
 
-    def asking_refusal(table, count, asked):
+    def refusal(table, count, asked, ranges=None):
         def by_9():
             return (9, 0) if count > rows_limit or not all(0 < n <= count for n in asked) else None
 
         def by_8():
-            return (8, 0) if len(table) < rows.NUMBERS * count % wrapping else None
+            needed = rows.NUMBERS * count % wrapping
+            short = ranges is not None and len(ranges) < evaluation.RANGE_NUMBERS * count % wrapping
+            return (8, 0) if short or len(table) < needed else None
 
         def by_6():
             for row in rows_order(asked):
                 numbers = evaluation.numbers_of(table, row) if row else []
-                if rows.span(numbers) % wrapping > rows.SPAN_LIMIT:
+                reversed_ends = ranges is not None and ends_reversed(ranges, row, wrapping)
+                if rows.span(numbers) % wrapping > rows.SPAN_LIMIT or reversed_ends:
                     return (6, row)
             return None
 
@@ -458,13 +537,70 @@ def asking_refusal_in(order, rows_limit=evaluation.ROWS_LIMIT, wrapping=2**70, r
         answers = [tests[number]() for number in order]
         return evaluation.Answer(*next(filter(None, answers), (0, 0)))
 
-    return {"asking_refusal": asking_refusal}
+    return refusal
+
+
+def ends_reversed(ranges, row, wrapping):
+    """Whether the low end that stands for a row is above the high end, by a difference that wraps."""
+    ends = ranges[evaluation.RANGE_NUMBERS * (row - 1) :][:2] if row else []
+    return len(ends) == 2 and (ends[1] - ends[0] + wrapping // 2) % wrapping < wrapping // 2
+
+
+def asking_refusal_in(*order, **changes):
+    return {"asking_refusal": refusal_in(order, **changes)}
+
+
+def ends_or_zeros(ranges, row):
+    """The ends that stand for a row; 0 where the table does not go so far."""
+    return REAL_CALLS["ends_of"]([*ranges, *[0] * listing.RANGES_LENGTH], row)
+
+
+def range_refusal_in(*order, **changes):
+    refusal = refusal_in(order, **changes)
+
+    def range_refusal(table, ranges, count, row):
+        return refusal(table, count, [row], ranges)
+
+    return {"range_refusal": range_refusal, "ends_of": ends_or_zeros}
+
+
+def range_refusal_on(change):
+    """A range is refused as it would be with other tables: the change is handed the tables and the
+    row asked for, and answers tables."""
+
+    def range_refusal(table, ranges, count, row):
+        return REAL_CALLS["range_refusal"](*change(list(table), list(ranges), row), count, row)
+
+    return {"range_refusal": range_refusal, "ends_of": ends_or_zeros}
+
+
+def with_ends(change):
+    """The ends of the row asked for changed in the second table."""
+
+    def changed(table, ranges, row):
+        if len(ranges) >= 2 * row > 0:
+            ranges[2 * row - 2 : 2 * row] = change(*ranges[2 * row - 2 : 2 * row])
+        return table, ranges
+
+    return changed
+
+
+def refused_by_any_row(table, ranges, count, row):
+    """A low above its high is 6 wherever it stands in the rows of the count."""
+    refusal = REAL_CALLS["range_refusal"](table, ranges, count, row)
+    if refusal.number:
+        return refusal
+    ends = [evaluation.ends_of(ranges, number) for number in range(1, count + 1)]
+    reversed_rows = [number for number, (low, high) in enumerate(ends, 1) if low > high]
+    return evaluation.Answer(6, reversed_rows[0]) if reversed_rows else refusal
 
 
 def same_by_ranges(table, count, first, second):
     answer = REAL_CALLS["same_rows"](table, count, first, second)
-    ends = [evaluation.row_range(table, count, row)[2:] for row in (first, second)]
-    return answer._replace(same=not answer.number and ends[0] == ends[1])
+    if answer.number:
+        return answer
+    ends = [rows.form_range(evaluation.numbers_of(table, row)) for row in (first, second)]
+    return answer._replace(same=ends[0] == ends[1])
 
 
 def same_by_first_numbers(table, count, first, second):
@@ -473,111 +609,219 @@ def same_by_first_numbers(table, count, first, second):
     return answer._replace(same=not answer.number and parts[0] == parts[1])
 
 
-def evaluate_with_8_first(schedule, table):
-    if len(table) < rows.NUMBERS * (schedule.counts.inputs + schedule.counts.steps):
+def evaluate_with_8_first(schedule, table, ranges):
+    if evaluation.too_short(table, ranges, evaluation.row_count(schedule)):
         return evaluation.Answer(8, 0)
-    return REAL_CALLS["evaluate"](schedule, table)
+    return REAL_CALLS["evaluate"](schedule, table, ranges)
 
 
-def evaluate_needing_a_full_table(schedule, table):
-    answer = REAL_CALLS["evaluate"](schedule, list(table))
-    if answer.number in (0, 6, 7) and len(table) < 1560:
-        return evaluation.Answer(8, 0)
-    return REAL_CALLS["evaluate"](schedule, table)
+def evaluate_needing(table_length, ranges_length):
+    """Tables of so many numbers are needed, whatever the rows."""
+
+    def evaluate(schedule, table, ranges):
+        answer = REAL_CALLS["evaluate"](schedule, list(table), list(ranges))
+        short = len(table) < table_length or len(ranges) < ranges_length
+        if answer.number in (0, 6, 7) and short:
+            return evaluation.Answer(8, 0)
+        return REAL_CALLS["evaluate"](schedule, table, ranges)
+
+    return {"evaluate": evaluate}
 
 
-def evaluate_and_clear(schedule, table):
-    """After 6 or 7 the row refused is cleared."""
-    answer = REAL_CALLS["evaluate"](schedule, table)
-    if answer.number in (6, 7):
-        table[52 * (answer.place - 1) : 52 * answer.place] = [0] * 52
+def evaluate_without_measuring(schedule, table, ranges):
+    """The second table is written as far as it goes."""
+    room = [0] * max(0, listing.RANGES_LENGTH - len(ranges))
+    longer = ranges + room
+    answer = REAL_CALLS["evaluate"](schedule, table, longer)
+    ranges[:] = longer[: len(ranges)]
     return answer
 
 
-def evaluate_and_undo(schedule, table):
-    """After 6 or 7 no row is written."""
-    before = list(table)
-    answer = REAL_CALLS["evaluate"](schedule, table)
-    if answer.number:
-        table[:] = before
+def evaluate_and_fill(first, second):
+    """After 6 or 7 the row refused is filled with 0, in the tables named."""
+
+    def evaluate(schedule, table, ranges):
+        answer = REAL_CALLS["evaluate"](schedule, table, ranges)
+        if answer.number in (6, 7) and first:
+            table[52 * (answer.place - 1) : 52 * answer.place] = [0] * 52
+        if answer.number in (6, 7) and second:
+            ranges[2 * (answer.place - 1) : 2 * answer.place] = [0] * 2
+        return answer
+
+    return {"evaluate": evaluate}
+
+
+def evaluate_and_undo(first, second):
+    """After 6 or 7 no row is written, in the tables named."""
+
+    def evaluate(schedule, table, ranges):
+        before = list(table), list(ranges)
+        answer = REAL_CALLS["evaluate"](schedule, table, ranges)
+        if answer.number and first:
+            table[:] = before[0]
+        if answer.number and second:
+            ranges[:] = before[1]
+        return answer
+
+    return {"evaluate": evaluate}
+
+
+def evaluate_and_write_before_8(schedule, table, ranges):
+    """Where the second table is too short, the first one is written all the same."""
+    answer = REAL_CALLS["evaluate"](schedule, table, ranges)
+    if answer.number == 8:
+        REAL_CALLS["evaluate"](schedule, table, [0] * listing.RANGES_LENGTH)
     return answer
 
 
-def evaluate_one_number_further(schedule, table):
-    answer = REAL_CALLS["evaluate"](schedule, table)
-    needed = rows.NUMBERS * (schedule.counts.inputs + schedule.counts.steps)
+def evaluate_one_number_further(schedule, table, ranges):
+    answer = REAL_CALLS["evaluate"](schedule, table, ranges)
+    needed = rows.NUMBERS * evaluation.row_count(schedule)
     if not answer.number and len(table) > needed:
         table[needed] = 0
     return answer
 
 
-REAL_CALLS = {name: getattr(evaluation, name) for name in ("evaluate", "same_rows")}
+def evaluate_one_end_further(schedule, table, ranges):
+    answer = REAL_CALLS["evaluate"](schedule, table, ranges)
+    needed = evaluation.RANGE_NUMBERS * evaluation.row_count(schedule)
+    if not answer.number and len(ranges) > needed:
+        ranges[needed] = 0
+    return answer
+
+
+REAL_CALLS = {
+    name: getattr(evaluation, name)
+    for name in (
+        "evaluate", "same_rows", "row_range", "range_refusal", "own_range", "ends_of", "store",
+    )
+}
+
+UNSOUND_RANGES = {
+    "an input's range one narrower": {"own_range": narrower_input_range},
+    "the second table left alone": {"store": store_numbers_alone},
+    "ranges of the rows before": {"store": store_ranges_of_rows_before},
+    "a range of its low end alone": stored_as(lambda row: row.answered_range[:1] * 2),
+}
+
+OTHER_RANGES = {
+    "an input's range taken from its form": {"own_range": range_of_form},
+    "an input's range stored from its form": stored_as(lambda row: rows.form_range(row.numbers)),
+    "low and high stored in the other order": stored_as(lambda row: row.answered_range[::-1]),
+}
 
 OTHER_CALLS = {
-    "8 before 9": asking_refusal_in((8, 9, 6)),
-    "6 before 8": asking_refusal_in((9, 6, 8)),
-    "a count of 31": asking_refusal_in((9, 8, 6), rows_limit=31),
-    "a count of 29 at most": asking_refusal_in((9, 8, 6), rows_limit=29),
-    "sums that wrap at 2^64": asking_refusal_in((9, 8, 6), wrapping=2**64),
-    "sums that wrap at 2^32": asking_refusal_in((9, 8, 6), wrapping=2**32),
+    "8 before 9": asking_refusal_in(8, 9, 6),
+    "6 before 8": asking_refusal_in(9, 6, 8),
+    "a count of 31": asking_refusal_in(9, 8, 6, rows_limit=31),
+    "a count of 29 at most": asking_refusal_in(9, 8, 6, rows_limit=29),
+    "sums that wrap at 2^64": asking_refusal_in(9, 8, 6, wrapping=2**64),
+    "sums that wrap at 2^32": asking_refusal_in(9, 8, 6, wrapping=2**32),
     "6 of the higher row first": asking_refusal_in(
-        (9, 8, 6), rows_order=lambda asked: sorted(asked, reverse=True)
+        9, 8, 6, rows_order=lambda asked: sorted(asked, reverse=True)
     ),
-    "6 of the row named first": asking_refusal_in((9, 8, 6), rows_order=list),
+    "6 of the row named first": asking_refusal_in(9, 8, 6, rows_order=list),
+    "a range with 8 before 9": range_refusal_in(8, 9, 6),
+    "a range with 6 before 8": range_refusal_in(9, 6, 8),
+    "a range of a count of 31": range_refusal_in(9, 8, 6, rows_limit=31),
+    "a range of a count of 29 at most": range_refusal_in(9, 8, 6, rows_limit=29),
+    "a range with sums that wrap at 2^64": range_refusal_in(9, 8, 6, wrapping=2**64),
+    "a range with sums that wrap at 2^32": range_refusal_in(9, 8, 6, wrapping=2**32),
+    "a range whose second table is not measured": range_refusal_on(
+        lambda table, ranges, row: (table, ranges + [0] * 64)
+    ),
+    "a range whose first table is not measured": range_refusal_on(
+        lambda table, ranges, row: (table + [0] * 1612, ranges)
+    ),
+    "low above high answered": range_refusal_on(with_ends(lambda low, high: (low, low))),
+    "low at high refused": range_refusal_on(with_ends(lambda low, high: (low, high - 1))),
+    "low one above high answered": range_refusal_on(with_ends(lambda low, high: (low - 1, high))),
+    "low above high of any row refused": {"range_refusal": refused_by_any_row},
+    "a range of a row over the span": range_refusal_on(
+        lambda table, ranges, row: ([0] * len(table), ranges)
+    ),
+    "a range read from the first table": {"row_range": range_of_first_table},
+    "a range read one row further": {"row_range": range_beside_row},
     "rows the same by their ranges": {"same_rows": same_by_ranges},
     "rows the same without their last number": {"same_rows": same_by_first_numbers},
     "8 before 3, 4, 5": {"evaluate": evaluate_with_8_first},
-    "a full table needed": {"evaluate": evaluate_needing_a_full_table},
-    "the refused row cleared": {"evaluate": evaluate_and_clear},
-    "no row written beside a refusal": {"evaluate": evaluate_and_undo},
+    "a full table needed": evaluate_needing(listing.TABLE_LENGTH, 0),
+    "a full second table needed": evaluate_needing(0, listing.RANGES_LENGTH),
+    "the second table not measured": {"evaluate": evaluate_without_measuring},
+    "the first table written where the second is too short": {
+        "evaluate": evaluate_and_write_before_8
+    },
+    "the refused row cleared": evaluate_and_fill(True, False),
+    "the refused row cleared in the second table": evaluate_and_fill(False, True),
+    "no row written beside a refusal": evaluate_and_undo(True, False),
+    "no range written beside a refusal": evaluate_and_undo(False, True),
     "a number written beyond the rows": {"evaluate": evaluate_one_number_further},
+    "a number written beyond the ranges": {"evaluate": evaluate_one_end_further},
 }
 
 
-def list_and_work_first(data, table, text):
-    """The table is touched where the text is too short."""
+def list_and_work_first(data, table, ranges, text):
+    """The tables are touched where the text is too short."""
     if len(text) < listing.TEXT_ROOM:
-        listing.printed_text(data, table)
-    return REAL_LISTING["list_into"](data, table, text)
+        listing.printed_text(data, table, ranges)
+    return REAL_LISTING["list_into"](data, table, ranges, text)
 
 
-def list_with_a_byte_behind(data, table, text):
+def list_with_a_byte_behind(data, table, ranges, text):
     """A byte 0 is written behind the text."""
-    answer = REAL_LISTING["list_into"](data, table, text)
+    answer = REAL_LISTING["list_into"](data, table, ranges, text)
     if answer.length:
         text[answer.length] = 0
     return answer
 
 
-def list_and_clear(data, table, text):
+def list_and_clear(data, table, ranges, text):
     """Every byte lent is 0 before the text is written."""
     if len(text) >= listing.TEXT_ROOM:
         text[:] = bytes(len(text))
-    return REAL_LISTING["list_into"](data, table, text)
+    return REAL_LISTING["list_into"](data, table, ranges, text)
 
 
-def list_refusing_short_tables(data, table, text):
+def list_refusing_short_tables(data, table, ranges, text):
     """A table too short is refused as bytes too short are, with no text."""
     before = bytes(text)
-    answer = REAL_LISTING["list_into"](data, table, text)
+    answer = REAL_LISTING["list_into"](data, table, ranges, text)
     if text.startswith(b"refused place\n8 "):
         text[:] = before
         return sheet.WriteAnswer(8, 0, 0)
     return answer
 
 
-def text_into_cleared_table(data, table):
-    """A refusal of reading clears the table."""
-    if sheet.read(data).number:
-        table[:] = [0] * len(table)
-    return REAL_LISTING["printed_text"](data, table)
+def list_with_ranges_apart(data, table, ranges, text):
+    """The second table is measured, and another one filled in its place."""
+    return REAL_LISTING["list_into"](data, table, list(ranges), text)
+
+
+def text_into_cleared(first, second):
+    """A refusal of reading clears the tables named."""
+
+    def printed_text(data, table, ranges):
+        if sheet.read(data).number and first:
+            table[:] = [0] * len(table)
+        if sheet.read(data).number and second:
+            ranges[:] = [0] * len(ranges)
+        return REAL_LISTING["printed_text"](data, table, ranges)
+
+    return {"printed_text": printed_text}
+
+
+def line_with_range_of_form(table, ranges, count, row):
+    """Low and high are those of the form."""
+    formed = rows.form_range(evaluation.numbers_of(table, row))
+    fields = REAL_LISTING["listing_line"](table, ranges, count, row).split()
+    return b"%b %d %d %b %b\n" % (fields[0], *formed, *fields[3:])
 
 
 def line_with(change):
     """A row's line with its numbers changed."""
 
-    def listing_line(table, count, row):
-        numbers = map(int, REAL_LISTING["listing_line"](table, count, row).split())
+    def listing_line(table, ranges, count, row):
+        numbers = map(int, REAL_LISTING["listing_line"](table, ranges, count, row).split())
         return b"%d %d %d %d %d\n" % change(*numbers)
 
     return {"listing_line": listing_line}
@@ -593,13 +837,16 @@ REAL_LISTING = {
 }
 
 OTHER_LISTINGS = {
-    "the table touched where the text is too short": {"list_into": list_and_work_first},
+    "the tables touched where the text is too short": {"list_into": list_and_work_first},
     "a byte written behind the text": {"list_into": list_with_a_byte_behind},
     "the bytes behind the text cleared": {"list_into": list_and_clear},
     "a short table refused without a text": {"list_into": list_refusing_short_tables},
     "a text of 4,095 bytes": {"TEXT_ROOM": listing.TEXT_ROOM - 1},
     "a text of 4,097 bytes": {"TEXT_ROOM": listing.TEXT_ROOM + 1},
-    "the table cleared beside a refusal of reading": {"printed_text": text_into_cleared_table},
+    "a listing that fills a second table of its own": {"list_into": list_with_ranges_apart},
+    "the table cleared beside a refusal of reading": text_into_cleared(True, False),
+    "the second table cleared beside a refusal of reading": text_into_cleared(False, True),
+    "the form's range listed": {"listing_line": line_with_range_of_form},
     "the sign of a negative low end lost": line_with(
         lambda row, low, high, own, same: (row, abs(low), high, own, same)
     ),
@@ -857,7 +1104,8 @@ OTHER_FORMULAS = {
 def spoilt(name):
     """The module that the name's group is about, with the parts named replaced."""
     groups = [(rows, UNSOUND), (rows, OTHER_NUMBERS), (sheet, OTHER_SHEETS)]
-    groups += [(evaluation, OTHER_CALLS), (listing, OTHER_LISTINGS), (formula, OTHER_FORMULAS)]
+    groups += [(evaluation, group) for group in (UNSOUND_RANGES, OTHER_RANGES, OTHER_CALLS)]
+    groups += [(listing, OTHER_LISTINGS), (formula, OTHER_FORMULAS)]
     module, parts = next((module, group[name]) for module, group in groups if name in group)
     with unittest.mock.patch.multiple(module, **parts):
         yield

@@ -24,18 +24,30 @@ import generate
 import library_calls
 import listing
 import rows
+import samples
 import sheet
 import sheet_cases
 import spoilt
 import stored
 
 
-def last_row(squares, ends, steps):
-    """The last row of the sheet with these ends and steps, or its refusal (number, place)."""
+def worked_rows(squares, ends, steps):
+    """The rows of the sheet with these ends and steps, or its refusal (number, place)."""
     handed = sheet.schedule(squares, ends, steps)
     sheet.test(handed)
     worked = evaluation.work(handed)
-    return worked.rows[-1] if not worked.number else (worked.number, worked.place)
+    return worked.rows if not worked.number else (worked.number, worked.place)
+
+
+def last_row(squares, ends, steps):
+    """The numbers of its last row, or its refusal."""
+    worked = worked_rows(squares, ends, steps)
+    return worked[-1].numbers if isinstance(worked, list) else worked
+
+
+def input_alone(low, high):
+    """The input's row on a sheet with these ends."""
+    return worked_rows(0, [(low, high)], constant_steps(0))[0]
 
 
 def constant_steps(*values):
@@ -70,18 +82,18 @@ class ProvedExamples(unittest.TestCase):
     """P1 to P13, "Proved examples" (manual, section 5.11), and the listing."""
 
     def test_p1_ends_0_1(self):
-        row = rows.input_row(0, 1, 1)
-        self.assertEqual(row, numbers(0, {1: 1}))
-        self.assertEqual((rows.low(row), rows.high(row)), (-1, 1))
+        row = input_alone(0, 1)
+        self.assertEqual(row.numbers, numbers(0, {1: 1}))
+        self.assertEqual(row.answered_range, (0, 1))
 
     def test_p2_ends_minus_1_0(self):
-        row = rows.input_row(-1, 0, 1)
-        self.assertEqual(row, numbers(-1, {1: 1}))
-        self.assertEqual((rows.low(row), rows.high(row)), (-2, 0))
+        row = input_alone(-1, 0)
+        self.assertEqual(row.numbers, numbers(-1, {1: 1}))
+        self.assertEqual(row.answered_range, (-1, 0))
 
     def test_p3_1_times_1(self):
         row = of_two_constants(4, 1, 1)
-        self.assertEqual((rows.low(row), rows.high(row)), (-1, 1))
+        self.assertEqual(rows.form_range(row), (-1, 1))
 
     def test_p4_minus_1_times_1(self):
         self.assertEqual(of_two_constants(4, -1, 1), numbers(-1, {4: 1}))
@@ -102,7 +114,7 @@ class ProvedExamples(unittest.TestCase):
     def test_p9_square_with_squares_0(self):
         row = last_row(0, [(4096, 8192)], [(4, 1, 1, 0)])
         self.assertEqual(row, numbers(9216, {1: 6144, 2: 1024}))
-        self.assertEqual((rows.low(row), rows.high(row)), (2048, 16384))
+        self.assertEqual(rows.form_range(row), (2048, 16384))
 
     def test_p10_reciprocal_with_squares_1(self):
         row = reciprocal_of_input(4096, 8192, 1)
@@ -113,8 +125,10 @@ class ProvedExamples(unittest.TestCase):
         self.assertEqual(row, numbers(2730, {1: -911, 2: 458}))
 
     def test_p12_reciprocal_of_narrow_inputs(self):
+        row = reciprocal_of_input(1, 2, 0)
+        self.assertEqual(row, numbers(16_777_216, {1: -16_777_216, 2: 16_777_216}))
         for squares in (0, 1):
-            self.assertEqual(reciprocal_of_input(1, 2, squares), (7, 2))
+            self.assertEqual(len(reciprocal_of_input(1, 2, squares)), 52)
             self.assertEqual(len(reciprocal_of_input(1, 3, squares)), 52)
 
     def test_p13_span(self):
@@ -140,11 +154,9 @@ class Traps(unittest.TestCase):
 
     def test_one_symbol_for_all_roundings(self):
         steps = [*constant_steps(1, 2), (4, 2, 2, 0), (4, 2, 3, 0), (3, 5, 4, 0)]
-        row = last_row(0, [(0, 0)], steps)
-        self.assertEqual((rows.low(row), rows.high(row)), (-2, 2))
+        self.assertEqual(rows.form_range(last_row(0, [(0, 0)], steps)), (-2, 2))
         with spoilt.spoilt("one symbol for the rounding of all steps"):
-            row = last_row(0, [(0, 0)], steps)
-            self.assertEqual((rows.low(row), rows.high(row)), (0, 0))
+            self.assertEqual(rows.form_range(last_row(0, [(0, 0)], steps)), (0, 0))
 
     def test_half_the_width(self):
         with spoilt.spoilt("half the width as an input's own coefficient"):
@@ -218,7 +230,7 @@ class Rows(unittest.TestCase):
     def test_range_of_every_kind_of_number(self):
         row = numbers(10, {1: -1, 30: 2}, [4, -8])
         row[37] = -16
-        self.assertEqual((rows.low(row), rows.high(row)), (10 - 3 - 8 - 16, 10 + 3 + 8 + 4))
+        self.assertEqual(rows.form_range(row), (10 - 3 - 8 - 16, 10 + 3 + 8 + 4))
 
 
 class Reading(unittest.TestCase):
@@ -311,7 +323,7 @@ class Reading(unittest.TestCase):
         for counts in [(-(2**63), 0, 1), (1, 2**63 - 1, 1), (1, 0, 2**63 - 1), (7, 7, 25)]:
             handed = sheet.ZEROS._replace(counts=sheet.Counts(*counts))
             self.assertEqual(sheet.write(handed, bytearray(2000)), (3, 2, 0))
-            self.assertEqual(evaluation.evaluate(handed, [0] * 1560), (3, 2))
+            self.assertEqual(evaluation.evaluate(handed, [0] * 1560, [0] * 60), (3, 2))
 
     def test_what_lies_beyond_the_counts_changes_nothing(self):
         handed = sheet.read(listing.EXAMPLE_SHEET).schedule
@@ -319,9 +331,9 @@ class Reading(unittest.TestCase):
             ends=handed.ends[:1] + (sheet.Ends(2**63 - 1, -(2**63)),) * 5,
             steps=handed.steps[:6] + (sheet.Step(9, 2**63 - 1, -(2**63), 5),) * 18,
         )
-        tables, outs = ([7] * 400, [7] * 400), (bytearray(300), bytearray(300))
-        for schedule, table, out in zip((handed, filled), tables, outs):
-            self.assertEqual(evaluation.evaluate(schedule, table), (0, 0))
+        tables, outs = [([7] * 400, [8] * 20) for _ in range(2)], (bytearray(300), bytearray(300))
+        for schedule, lent, out in zip((handed, filled), tables, outs):
+            self.assertEqual(evaluation.evaluate(schedule, *lent), (0, 0))
             self.assertEqual(sheet.write(schedule, out).length, len(listing.EXAMPLE_SHEET))
         self.assertEqual(*tables)
         self.assertEqual(*outs)
@@ -487,26 +499,74 @@ class Formulas(unittest.TestCase):
             self.assertEqual(formula.read(inputs, squares, ends, text)[:2], expected, text)
 
 
+class OddEnds(unittest.TestCase):
+    """An input's range is its ends, and a reciprocal goes by the range of its operand."""
+
+    def test_an_input_has_its_ends(self):
+        for low, high in [(0, 1), (-1, 0), (1, 2), (-2, -1), (-3, -2), (-5, 6), (7, 7), (-(2**28), 1)]:
+            row = input_alone(low, high)
+            self.assertEqual(row.own_range, (low, high))
+            self.assertEqual(row.answered_range, (low, high))
+            formed = (low - (low + high) % 2, high)
+            self.assertEqual(rows.form_range(row.numbers), formed)
+
+    def test_other_rows_have_the_range_of_their_form(self):
+        """A sum with 0 has the input's numbers and not its ends."""
+        _, _, total = worked_rows(0, [(1, 2)], [(1, 0, 0, 0), (2, 1, 2, 0)])
+        self.assertEqual(total.numbers, numbers(1, {1: 1}))
+        self.assertEqual(total.own_range, (0, 2))
+        self.assertEqual(total.answered_range, (0, 2))
+        steps = [(1, 0, 0, 0), (2, 1, 2, 0), (5, 3, 0, 0)]
+        self.assertEqual(worked_rows(0, [(1, 2)], steps), (7, 4))
+
+    def test_the_distance_is_that_of_the_ends(self):
+        """x = 3 + a, by hand: 16777216/3 and -16777216/9, each rounded down; the totals of the
+        product with x are -1 in the centre and -3 for a, and 1864136 is dropped. By the ends the sum
+        is divided by 3, by the form it would be by 2."""
+        error = 1 + 3 + 1_864_136
+        row = reciprocal_of_input(3, 4, 0)
+        self.assertEqual(row, numbers(5_592_405, {1: -1_864_136, 2: -(-error // 3)}))
+        formed = last_row(0, [(3, 4)], [(1, 0, 0, 0), (2, 1, 2, 0), (5, 3, 0, 0)])
+        self.assertEqual(formed, numbers(5_592_405, {1: -1_864_136, 4: -(-error // 2)}))
+
+    def test_a_negative_input_of_odd_sum(self):
+        """Its form reaches one below the low end, and so no nearer to 0."""
+        row = reciprocal_of_input(-2, -1, 0)
+        self.assertEqual(row, numbers(-8_388_608, {1: -4_194_304, 2: 4_194_304}))
+
+    def test_7_at_the_ends(self):
+        for low, high in [(0, 1), (-1, 0), (0, 0), (-1, 1), (-2, 1), (-1, 2)]:
+            self.assertEqual(reciprocal_of_input(low, high, 0), (7, 2))
+        for low, high in [(1, 1), (-1, -1), (1, 2), (-2, -1), (1, 4), (-4, -1), (1, 2**13)]:
+            self.assertEqual(len(reciprocal_of_input(low, high, 0)), 52)
+
+
 class Evaluating(unittest.TestCase):
+    example = sheet.read(listing.EXAMPLE_SHEET).schedule
+
     def test_writes_its_rows_and_no_others(self):
-        handed = sheet.read(listing.EXAMPLE_SHEET).schedule
-        table = [-9] * (52 * 7 + 5)
-        self.assertEqual(evaluation.evaluate(handed, table), (0, 0))
+        table, ranges = [-9] * (52 * 7 + 5), [-9] * (2 * 7 + 5)
+        self.assertEqual(evaluation.evaluate(self.example, table, ranges), (0, 0))
         self.assertEqual(table[52 * 7 :], [-9] * 5)
         self.assertNotIn(-9, table[: 52 * 7])
+        lines = [line.split() for line in listing.EXAMPLE_LISTING.splitlines()[1:]]
+        listed = [int(end) for line in lines for end in line[1:3]]
+        self.assertEqual(ranges, listed + [-9] * 5)
 
-    def test_needs_52_numbers_for_each_row(self):
-        table = [-9] * (52 * 7 - 1)
-        self.assertEqual(evaluation.evaluate(sheet.read(listing.EXAMPLE_SHEET).schedule, table), (8, 0))
-        self.assertEqual(table, [-9] * len(table))
+    def test_needs_52_and_2_numbers_for_each_row(self):
+        for lengths in [(52 * 7 - 1, 14), (52 * 7, 13), (0, 14), (52 * 7, 0), (1560, 2), (52, 60)]:
+            table, ranges = [-9] * lengths[0], [-8] * lengths[1]
+            self.assertEqual(evaluation.evaluate(self.example, table, ranges), (8, 0))
+            self.assertEqual((table, ranges), ([-9] * lengths[0], [-8] * lengths[1]))
 
     def test_after_a_refusal_the_rows_before_are_written(self):
         for step, number in [((5, 1, 0, 0), 7), ((4, 2, 2, 0), 6)]:
-            handed = sheet.schedule(0, [(-5, 5)], [(1, 0, 0, 2**28), step, (2, 1, 1, 0)])
-            table = [-9] * (52 * 4)
-            self.assertEqual(evaluation.evaluate(handed, table), (number, 3))
-            self.assertEqual(table[: 52 * 2], numbers(0, {1: 5}) + numbers(2**28, {}))
+            handed = sheet.schedule(0, [(-5, 4)], [(1, 0, 0, 2**28), step, (2, 1, 1, 0)])
+            table, ranges = [-9] * (52 * 4), [-8] * (2 * 4)
+            self.assertEqual(evaluation.evaluate(handed, table, ranges), (number, 3))
+            self.assertEqual(table[: 52 * 2], numbers(-1, {1: 5}) + numbers(2**28, {}))
             self.assertEqual(table[52 * 2 :], [-9] * (52 * 2))
+            self.assertEqual(ranges, [-5, 4, 2**28, 2**28, -8, -8, -8, -8])
 
     def test_7_before_6(self):
         """The operand is 1 - 2^20·a², squares 1: its range holds 0 and its candidate is over the
@@ -518,16 +578,22 @@ class Evaluating(unittest.TestCase):
 
     def test_order_of_causes_where_rows_are_asked_for(self):
         good, least = numbers(5, {2: 3}), [-(2**63)] * 52
-        table = good + least + good + least
+        table, ranges = good + least + good + least, [2, 7, 3, 4, 8, 7, 9, 8]
         asked = evaluation.row_range
-        self.assertEqual(asked(table, 4, 1), (0, 0, 2, 8))
-        self.assertEqual(asked(table, 4, 2), (6, 2, 0, 0))
-        self.assertEqual(asked(table, 4, 0), (9, 0, 0, 0))
-        self.assertEqual(asked(table, 4, 5), (9, 0, 0, 0))
-        self.assertEqual(asked(table, 5, 1), (8, 0, 0, 0))
-        self.assertEqual(asked(table, 31, 1), (9, 0, 0, 0))
-        self.assertEqual(asked([], 0, 0), (9, 0, 0, 0))
-        self.assertEqual(asked(table[:-1], 4, 2), (8, 0, 0, 0))
+        self.assertEqual(asked(table, ranges, 4, 1), (0, 0, 2, 7))
+        self.assertEqual(asked(table, ranges, 4, 2), (6, 2, 0, 0))
+        self.assertEqual(asked(table, ranges, 4, 3), (6, 3, 0, 0))
+        self.assertEqual(asked(table, ranges, 4, 4), (6, 4, 0, 0))
+        self.assertEqual(asked(table, ranges, 4, 0), (9, 0, 0, 0))
+        self.assertEqual(asked(table, ranges, 4, 5), (9, 0, 0, 0))
+        self.assertEqual(asked(table, ranges, 5, 1), (8, 0, 0, 0))
+        self.assertEqual(asked(table, ranges, 31, 1), (9, 0, 0, 0))
+        self.assertEqual(asked([], [], 0, 0), (9, 0, 0, 0))
+        self.assertEqual(asked([], [], 31, 1), (9, 0, 0, 0))
+        self.assertEqual(asked(table[:-1], ranges, 4, 2), (8, 0, 0, 0))
+        self.assertEqual(asked(table, ranges[:-1], 4, 2), (8, 0, 0, 0))
+        self.assertEqual(asked(table, ranges[:-1], 3, 1), (0, 0, 2, 7))
+        self.assertEqual(asked(table, [], 4, 2), (8, 0, 0, 0))
         self.assertEqual(evaluation.row_part(table, 4, 3), good)
         self.assertEqual(evaluation.row_part(table, 4, 2), [])
         compare = evaluation.same_rows
@@ -537,11 +603,57 @@ class Evaluating(unittest.TestCase):
         self.assertEqual(compare(table, 4, 2, 5), (9, 0, False))
         self.assertEqual(compare(table, 5, 2, 4), (8, 0, False))
 
+    def test_the_second_table_is_told_as_it_stands(self):
+        """Whatever was put there, and whatever range the numbers of the row make."""
+        row = numbers(5, {2: 3})
+        least, greatest = -(2**63), 2**63 - 1
+        for ends in [(0, 0), (100, 200), (least, greatest), (least, least), (greatest, greatest)]:
+            self.assertEqual(evaluation.row_range(row, [*ends], 1, 1), (0, 0, *ends))
+        for ends in [(1, 0), (greatest, least), (least + 1, least), (0, -1)]:
+            self.assertEqual(evaluation.row_range(row, [*ends], 1, 1), (6, 1, 0, 0))
+
     def test_span_of_a_lent_row(self):
         for over in (0, 1):
             row = numbers(-(2**30) + 52, {30: -1}, [-1] * 21)
             row[2] = 30 + over
-            self.assertEqual(evaluation.row_range(row, 1, 1).number, 6 if over else 0)
+            self.assertEqual(evaluation.row_range(row, [0, 0], 1, 1).number, 6 if over else 0)
+
+
+class Samples(unittest.TestCase):
+    """The answers of another implementation."""
+
+    def test_listings(self):
+        found = samples.listings()
+        for sample in found:
+            self.assertEqual(listing.listing(sample.sheet), sample.printed)
+        self.assertEqual(len(found), 400)
+
+    def test_evaluations(self):
+        found = samples.evaluations()
+        for sample in found:
+            tables = [[sample.fill] * length for length in sample.lengths]
+            answer = evaluation.evaluate(sample.schedule, *tables)
+            self.assertEqual(answer, sample.refusal, sample)
+            for table, length, written in zip(tables, sample.lengths, sample.written):
+                self.assertEqual(table, written + [sample.fill] * (length - len(written)))
+        self.assertEqual(len(found), 150)
+
+    def test_ranges(self):
+        found = samples.ranges()
+        for sample in found:
+            answer = evaluation.row_range(*sample[:4])
+            self.assertEqual(answer, sample.answer, sample)
+        self.assertEqual(len(found), 150)
+
+    def test_the_listings_tell_every_fault_of_ranges(self):
+        found = samples.listings()
+        for name in spoilt.UNSOUND_RANGES | spoilt.OTHER_RANGES | spoilt.BY_FORM:
+            with self.subTest(name), spoilt.spoilt(name):
+                self.assertTrue(any(listing.listing(s.sheet) != s.printed for s in found))
+
+    def test_no_call_is_of_another_kind(self):
+        kinds = collections.Counter(made["call"] for made in samples.objects("calls.jsonl"))
+        self.assertEqual(kinds, {"evaluate": 150, "range": 150})
 
 
 def schedules_read(seed, count):
@@ -565,9 +677,69 @@ def violated_clauses(schedules):
                 break
 
 
+# Ends of odd sum, next to each other and apart, at 0, on either side of it and around it.
+ODD_ENDS = [
+    (0, 1), (-1, 0), (1, 2), (-2, -1), (-3, -2), (2, 3), (1, 4), (-4, -1), (3, 8), (-9, -4), (-2, 1),
+    (-1, 2), (-512, 1023), (4096, 8191), (-8191, -4096), (2**28 - 1, 2**28), (-(2**28), 1 - 2**28),
+    (-(2**28), 2**28 - 1),
+]
+
+
+def sheets_of_odd_ends():
+    """Sheets of one input of odd sum with everything that is accepted of it: itself, a sum with 0,
+    its square and its reciprocal, and what gives the input back."""
+    for ends, squares in itertools.product(ODD_ENDS, (0, 1)):
+        for steps in (
+            [(1, 0, 0, 0), (2, 1, 2, 0), (3, 3, 1, 0)],
+            [(4, 1, 1, 0), (3, 2, 1, 0)],
+            [(5, 1, 0, 0), (4, 1, 2, 0)],
+            [(5, 1, 0, 0), (5, 2, 0, 0)],
+        ):
+            handed = sheet.schedule(squares, [ends], steps)
+            if not evaluation.work(handed).number:
+                yield handed
+
+
 class Demand3(unittest.TestCase):
     def test_holds_on_generated_sheets(self):
         self.assertEqual(list(violated_clauses(schedules_read("demand 3", 2500))), [])
+
+    def test_holds_within_ends_of_odd_sum(self):
+        """At both ends, at the centre, one unit to either side of it, and between."""
+        count = 0
+        for handed in sheets_of_odd_ends():
+            low, high = handed.ends[0]
+            centre = (low + high) // 2
+            middle, third = demand3.Fraction(low + high, 2), demand3.Fraction(2 * low + high, 3)
+            for value in {low, high, centre, max(low, centre - 1), centre + 1, middle, third}:
+                inputs = [demand3.Fraction(value) / rows.UNIT]
+                symbols = demand3.any_symbols(random.Random(count))
+                self.assertEqual(demand3.violations(handed, inputs, symbols), [])
+                count += 1
+        self.assertGreater(count, 500)
+
+    def test_an_input_is_found_from_minus_1_to_1(self):
+        """The low end of an odd sum is found short of -1, the high end at 1."""
+        for low, high in ODD_ENDS:
+            row = input_alone(low, high)
+            units = [demand3.Fraction(end, rows.UNIT) for end in (low, high)]
+            found = [demand3.found_values([row.numbers], [unit])[1] for unit in units]
+            self.assertEqual(found[1], 1)
+            self.assertTrue(-1 < found[0] <= 0)
+            self.assertEqual(found[0], demand3.Fraction(low - row.numbers[0], row.numbers[1]))
+
+    def test_odd_ends_are_generated(self):
+        """Each of these is read often enough, and its reciprocal taken."""
+        read, inverted = collections.Counter(), collections.Counter()
+        for schedule in schedules_read("odd ends", 4000):
+            read.update(schedule.ends[: schedule.counts.inputs])
+            for step in schedule.steps[: schedule.counts.steps]:
+                if step.code == sheet.RECIPROCAL and step.first <= schedule.counts.inputs:
+                    inverted[schedule.ends[step.first - 1]] += 1
+        for ends in [(0, 1), (-1, 0), (1, 2), (-2, -1), (2, 3), (-3, -2)]:
+            self.assertGreater(read[ends], 5, ends)
+        for ends in [(1, 2), (-2, -1), (2, 3), (-3, -2), (1, 4), (-4, -1)]:
+            self.assertGreater(inverted[ends], 5, ends)
 
     def test_holds_at_every_corner_of_a_sheet(self):
         """(a·b + 1) / (a + b + 5/4), with a from -1/8 to 1/4 and b from 1/3 or so to 1."""
@@ -587,7 +759,7 @@ class Demand3(unittest.TestCase):
     def test_teeth(self):
         """In each unsound arithmetic a violation is found."""
         schedules = schedules_read("teeth", 2000)
-        for name in spoilt.UNSOUND:
+        for name in spoilt.UNSOUND | spoilt.UNSOUND_RANGES:
             with self.subTest(name), spoilt.spoilt(name):
                 self.assertTrue(any(violated_clauses(schedules)))
 
@@ -622,6 +794,7 @@ class Generators(unittest.TestCase):
         """A program with any of these faults would not get through compare.py."""
         sheets = [generate.sheet_bytes("01", index) for index in range(6000)]
         self.assert_told(listing.listing, sheets, spoilt.UNSOUND | spoilt.OTHER_NUMBERS)
+        self.assert_told(listing.listing, sheets, spoilt.UNSOUND_RANGES | spoilt.OTHER_RANGES)
         self.assert_told(lambda data: sheet.read(data)[:2], sheets, spoilt.OTHER_SHEETS)
 
     def test_the_cases_tell_every_fault_of_reading(self):
@@ -640,6 +813,8 @@ class LibraryCalls(unittest.TestCase):
         for call in library_calls.calls():
             if call[0] == library_calls.TABLE:
                 self.assertLessEqual(call[1], library_calls.TABLE_ROOM)
+            if call[0] == library_calls.RANGES:
+                self.assertLessEqual(call[1], library_calls.RANGES_ROOM)
             if call[0] == library_calls.WRITE:
                 self.assertLessEqual(call[1], library_calls.WRITE_ROOM)
             if call[0] == library_calls.LIST:
@@ -669,14 +844,16 @@ class LibraryCalls(unittest.TestCase):
 
     def test_the_calls_tell_every_fault(self):
         """Listings tell the faults of listing, formulas those of formula, the other calls those of
-        evaluation."""
+        evaluation, and listings and other calls those of ranges."""
         every = library_calls.calls()
-        of_listing = (library_calls.TABLE, library_calls.LIST)
+        of_listing = (library_calls.TABLE, library_calls.RANGES, library_calls.LIST)
         of_formula = (library_calls.INPUTS, library_calls.FORMULA)
         listings = [call for call in every if call[0] in of_listing]
         formulas = [call for call in every if call[0] in of_formula]
         others = [call for call in every if call[0] not in (library_calls.LIST, *of_formula)]
         self.assert_told(others, spoilt.OTHER_CALLS)
+        for calls in (others, listings):
+            self.assert_told(calls, spoilt.UNSOUND_RANGES | spoilt.OTHER_RANGES | spoilt.BY_FORM)
         self.assert_told(listings, spoilt.OTHER_LISTINGS)
         self.assert_told(formulas, spoilt.OTHER_FORMULAS)
 
@@ -695,6 +872,18 @@ class LibraryCalls(unittest.TestCase):
                 made.add((*block, *arguments))
         for inputs, squares, ends, text in formula_cases.samples():
             self.assertIn((inputs, squares, *itertools.chain(*ends), text), made)
+
+    def test_the_samples_of_evaluations_and_ranges_are_among_the_calls(self):
+        """What the library prints for these calls is what the samples answer."""
+        lines = []
+        for sample in samples.evaluations():
+            lines.append(("evaluate", *sample.refusal))
+            for word, written, length in zip(("table", "ranges"), sample.written, sample.lengths):
+                whole = written + [sample.fill] * (length - len(written))
+                lines.append((word, *library_calls.runs(whole)))
+        lines += [("range", *sample.answer) for sample in samples.ranges()]
+        expected = "".join(" ".join(map(str, line)) + "\n" for line in lines).encode()
+        self.assertIn(expected, library_calls.expected(library_calls.calls()))
 
     def test_a_schedule_comes_back_from_its_numbers(self):
         numbers = library_calls.flat(library_calls.GOOD)

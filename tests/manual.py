@@ -261,6 +261,13 @@ def listed(data: bytes) -> list[list[str]]:
     return [line.split(" ") for line in text.splitlines()[1:]]
 
 
+def lent_numbers(data: bytes, row: int) -> tuple[list[int], list[int]]:
+    """What the checker's evaluation leaves for a row of a sheet in the first and in the second table."""
+    table, ranges = [0] * listing.TABLE_LENGTH, [0] * listing.RANGES_LENGTH
+    evaluation.evaluate(sheet.read(data).schedule, table, ranges)
+    return table[rows.NUMBERS * (row - 1) : rows.NUMBERS * row], ranges[2 * (row - 1) : 2 * row]
+
+
 def check_example(name, squares, ends, steps, shown, *numbers) -> None:
     """An example, as the program and as the checker work it."""
     data = sheet_of(squares, ends, steps)
@@ -271,8 +278,18 @@ def check_example(name, squares, ends, steps, shown, *numbers) -> None:
         return
     centre, first, pair, own, low, high = map(int, numbers)
     expect(f"{MANUAL}: {name}, program", [shown, str(low), str(high), str(own)], listed(data)[int(shown) - 1][:4])
-    row = evaluation.work(sheet.read(data).schedule).rows[int(shown) - 1]
-    expect(f"{MANUAL}: {name}, checker", (centre, first, pair, own), (row[0], row[1], row[rows.PAIR_PLACE[1, 1]], row[int(shown)]))
+    row, answered = lent_numbers(data, int(shown))
+    worked = [row[0], row[1], row[rows.PAIR_PLACE[1, 1]], row[int(shown)], *answered]
+    expect(f"{MANUAL}: {name}, checker", [centre, first, pair, own, low, high], worked)
+
+
+def check_lent(row, centre, first, second, places, low, high) -> None:
+    """A row of the manual's sheet with odd ends, as it stands in both tables; its numbers of the second one begin at twice the rows before it."""
+    numbers, answered = lent_numbers((ROOT / "examples/odd_ends.sheet").read_bytes(), int(row))
+    begin = 2 * (int(row) - 1)
+    shown = [places, [int(centre), int(first), int(second)], [int(low), int(high)]]
+    expect(f"{MANUAL}: row {row} in both tables", shown, [f"{begin} and {begin + 1}", numbers[:3], answered])
+    expect(f"{MANUAL}: row {row}, numbers that are not 0", [], [number for number in numbers[3:] if number])
 
 
 def check_pairs(pairs, places) -> None:
@@ -308,9 +325,12 @@ SIZES = {
     "inputs": lambda: sheet.INPUTS_LIMIT,
     "steps": lambda: sheet.STEPS_LIMIT,
     "rows": lambda: evaluation.ROWS_LIMIT,
-    "numbers of a row": lambda: rows.NUMBERS,
-    "numbers of a table for 30 rows": lambda: listing.TABLE_LENGTH,
-    "bytes of that table": lambda: 8 * listing.TABLE_LENGTH,
+    "numbers of a row in the first table": lambda: rows.NUMBERS,
+    "numbers of a row in the second table": lambda: listing.RANGES_LENGTH // evaluation.ROWS_LIMIT,
+    "numbers of the first table for 30 rows": lambda: listing.TABLE_LENGTH,
+    "numbers of the second table for 30 rows": lambda: listing.RANGES_LENGTH,
+    "bytes of that first table": lambda: 8 * listing.TABLE_LENGTH,
+    "bytes of that second table": lambda: 8 * listing.RANGES_LENGTH,
     "bytes of a schedule": lambda: 8 * (3 + 2 * sheet.INPUTS_LIMIT + 4 * sheet.STEPS_LIMIT),
     "bytes of a sheet that is read": lambda: sheet.SHEET_LIMIT,
     "bytes of the longest sheet that is accepted": longest_accepted,
@@ -319,7 +339,7 @@ SIZES = {
     "brackets of a formula inside each other": lambda: formula.NESTING_LIMIT,
     "greatest end, and greatest constant": lambda: sheet.END_LIMIT,
     "greatest span": lambda: rows.SPAN_LIMIT,
-    "bytes of stack for one `evaluate`, beside the caller's table and schedule": stack_measured,
+    "bytes of stack for one `evaluate`, beside the caller's tables and schedule": stack_measured,
 }
 
 
@@ -352,6 +372,7 @@ def check_formula_row(row, part, step) -> None:
 
 TABLES = [
     (MANUAL, "| example | squares | ends | steps | shown | centre | symbol 1 | pair (1,1) | own | low | high |", check_example, 15),
+    (MANUAL, "| row | its centre | its symbol 1 | its symbol 2 | numbers of the second table | low | high |", check_lent, 3),
     (MANUAL, "| field | from | to |", check_field, len(FIELDS)),
     (MANUAL, "| pairs | numbers |", check_pairs, 6),
     (MANUAL, "| what | how much |", check_size, len(SIZES)),

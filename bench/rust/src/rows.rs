@@ -13,12 +13,24 @@ const ORDER: [(usize, usize); PAIRS] = [
     (5, 5),
 ];
 
+/// Where the pairs (i,i) stand in this order.
+const SQUARES: [usize; 6] = [0, 6, 11, 15, 18, 20];
+
 #[derive(Clone, Copy, PartialEq)]
 pub struct Row {
     pub centre: i64,
     pub linear: [i64; SYMBOLS],
     pub pair: [i64; PAIRS],
 }
+
+#[derive(Clone, Copy)]
+pub struct Range {
+    pub low: i64,
+    pub high: i64,
+}
+
+/// A row and its range, or the number of a refusal.
+pub type Answer = Result<(Row, Range), u64>;
 
 fn absolutes(numbers: &[i64]) -> u64 {
     numbers.iter().map(|v| v.unsigned_abs()).sum()
@@ -37,40 +49,51 @@ impl Row {
         absolutes(&self.linear) + absolutes(&self.pair)
     }
 
-    /// The row, or 6. No operation makes a number so large that this sum could wrap.
-    fn checked(self) -> Result<Row, u64> {
-        if self.centre.unsigned_abs() + self.radius() <= SPAN_LIMIT { Ok(self) } else { Err(6) }
+    /// The row and its range, or 6. No operation makes a number so large that a sum here could wrap.
+    fn checked(self) -> Answer {
+        let radius = self.radius();
+        if self.centre.unsigned_abs() + radius <= SPAN_LIMIT { Ok((self, self.range(radius as i64))) } else { Err(6) }
     }
 
-    pub fn range(&self) -> (i64, i64) {
-        let linear = absolutes(&self.linear) as i64;
-        let mut low = self.centre - linear;
-        let mut high = self.centre + linear;
-        for (&(i, j), &p) in ORDER.iter().zip(&self.pair) {
-            if i != j {
-                low -= p.abs();
-                high += p.abs();
-            } else if p < 0 {
-                low += p;
-            } else {
-                high += p;
-            }
+    /// The range of a row of this radius. A square is never negative, so a pair (i,i) reaches to one side only.
+    fn range(&self, radius: i64) -> Range {
+        let mut range = Range { low: self.centre - radius, high: self.centre + radius };
+        for p in SQUARES.map(|k| self.pair[k]) {
+            range.low += p.max(0);
+            range.high += p.min(0);
         }
-        (low, high)
+        range
     }
 }
 
-pub fn constant(value: i64) -> Result<Row, u64> {
+impl Range {
+    pub const ZERO: Range = Range { low: 0, high: 0 };
+
+    /// How far the range is from 0, or 7 where it holds 0.
+    fn distance(self) -> Result<u64, u64> {
+        if self.low > 0 {
+            Ok(self.low.unsigned_abs())
+        } else if self.high < 0 {
+            Ok(self.high.unsigned_abs())
+        } else {
+            Err(7)
+        }
+    }
+}
+
+pub fn constant(value: i64) -> Answer {
     Row { centre: value, ..Row::ZERO }.checked()
 }
 
-pub fn input(own: usize, low: i64, high: i64) -> Result<Row, u64> {
+/// The range of an input is its ends.
+pub fn input(own: usize, low: i64, high: i64) -> Answer {
     let mut row = Row { centre: (low + high) >> 1, ..Row::ZERO };
     row.linear[own] = high - row.centre;
-    row.checked()
+    let (row, _) = row.checked()?;
+    Ok((row, Range { low, high }))
 }
 
-pub fn add(x: &Row, y: &Row) -> Result<Row, u64> {
+pub fn add(x: &Row, y: &Row) -> Answer {
     let mut row = *x;
     row.centre += y.centre;
     for (v, w) in row.linear.iter_mut().zip(&y.linear) {
@@ -82,7 +105,7 @@ pub fn add(x: &Row, y: &Row) -> Result<Row, u64> {
     row.checked()
 }
 
-pub fn subtract(x: &Row, y: &Row) -> Result<Row, u64> {
+pub fn subtract(x: &Row, y: &Row) -> Answer {
     let mut row = *x;
     row.centre -= y.centre;
     for (v, w) in row.linear.iter_mut().zip(&y.linear) {
@@ -111,7 +134,7 @@ fn dropped(x: &Row, y: &Row, squares: usize) -> u64 {
     x.radius() * y.radius() - absolutes(&x.linear[..squares]) * absolutes(&y.linear[..squares])
 }
 
-pub fn multiply(x: &Row, y: &Row, squares: usize, own: usize) -> Result<Row, u64> {
+pub fn multiply(x: &Row, y: &Row, squares: usize, own: usize) -> Answer {
     let mut row = Row::ZERO;
     let t = x.centre * y.centre;
     row.centre = t >> 12;
@@ -160,16 +183,10 @@ fn error_bound(x: &Row, z: &Row, squares: usize) -> u64 {
     bound
 }
 
-pub fn reciprocal(x: &Row, squares: usize, own: usize) -> Result<Row, u64> {
-    let (low, high) = x.range();
-    let distance = if low > 0 {
-        low.unsigned_abs()
-    } else if high < 0 {
-        high.unsigned_abs()
-    } else {
-        return Err(7);
-    };
-    let mut row = candidate(x, squares).checked()?;
+/// The reciprocal of a row of this range.
+pub fn reciprocal(x: &Row, range: Range, squares: usize, own: usize) -> Answer {
+    let distance = range.distance()?;
+    let (mut row, _) = candidate(x, squares).checked()?;
     row.linear[own] = error_bound(x, &row, squares).div_ceil(distance) as i64;
     row.checked()
 }

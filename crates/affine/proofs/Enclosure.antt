@@ -1,17 +1,14 @@
 -- Each operation's row encloses the exact result: where the operands' exact values are their forms' at symbols that all lie from -1 to 1,
 -- and the row's own symbol is 0, the exact result differs from the new form by at most the own coefficient. All in units, over any ordered
 -- ring; multiply and reciprocal rest on one product law, and the rounding rule enters by one equation.
-use mathlib.Core.Path.{_≡_, refl, sym, ap, _∙_, subst}
-use mathlib.Core.Bool.{Bool, true, false}
+use mathlib.Core.Path.{_≡_, sym, ap, _∙_, subst}
+use mathlib.Core.Bool.{false}
 use mathlib.Core.List.{[], _∷_}
 use mathlib.Core.Logic.{_⊎_, inl, inr}
-use Prim.Native.Nat.{ℕ, zero, suc, _+_, _≤_, _<_}
+use Prim.Native.Nat.{ℕ, _+_, _≤_, _<_}
 use native.Mathlib.Nat.{mul-comm}
 use native.Mathlib.Omega.{arith}
-use borrow.Author.Tests.{lt-ltb}
-use lib.Dec.{T, leb·zero}
-use lib.IntN.{ℤ, pos, negsuc, negℤ, natAbs, _+ℤ_, _*ℤ_, *ℤ-comm}
-use lib.Signed.{leZ, ltZ}
+use lib.IntN.{ℤ, pos, negsuc, negℤ, _+ℤ_, _*ℤ_, *ℤ-comm}
 use Rattle.integer.specs.Floor.{floorQuotient, floorRemainder, ceilingQuotient}
 use Rattle.integer.proofs.Ring.{CommutativeRing, con, _⊕_, _⊖_, _⊗_, neg, _≐_, ring}
 use Rattle.integer.proofs.Certificate.{OrderedRing, certify, hyp, eqn, nat, _⊞_, _⊠_, _≼_, _≋_, _⊢_}
@@ -19,8 +16,8 @@ use Rattle.integer.proofs.Order.{pos-≤ℤ}
 use Rattle.integer.proofs.Floor.{floor-divides, ceiling-covers}
 use Rattle.integer.proofs.Bound.{Bound, bound-add, bound-minus, bound-cong, bound-weaken, bound-divide, le-cong, le-trans, whole-nonneg, whole-minus, whole-le, cancel-le}
 use Rattle.affine.specs.declared.Row.{Row}
+use Rattle.affine.specs.declared.Range.{Range}
 use Rattle.affine.specs.Limits.{symbols, paired, pairs, unit, unitSquared}
-use Rattle.affine.specs.Lists.{pick}
 use Rattle.affine.specs.Row.{span, low, high}
 use Rattle.affine.specs.Steps.{withOwn, mapRow}
 use Rattle.affine.specs.Product.{Rounding, productRounding, totals, dropped, productOwn, productRow}
@@ -29,7 +26,7 @@ use Rattle.affine.proofs.Lists.{length-tabulate, at-tabulate}
 use Rattle.integer.proofs.Sum.{dot-split, dot-set}
 use Rattle.affine.proofs.Form.{Shaped, UsesOnly, pairValue, units, product-is-totals}
 use Rattle.affine.proofs.FormBounds.{Unit-symbols, units-within-span, lost-within-dropped}
-use Rattle.affine.proofs.RangeLaws.{low-holds-value, high-holds-value}
+use Rattle.affine.proofs.Distance.{distance-is-end}
 
 -- the one fact that a rounding rule is asked for: t = 4096 q + r
 pub record Rounds (ρ : Rounding) : Type 0 where
@@ -43,21 +40,6 @@ product-rounds =
   where
     nonzero : pos unit ≡ pos 0 → ⊥
     nonzero e = let n : unit ≡ 0 = cc in omega arith
-
--- where a range does not hold 0, its distance from 0 is its end on that side
-pub distance-is-end : (l h : ℤ) → pick (leZ l (pos 0)) (leZ (pos 0) h) false ≡ false
-    → (0 < pick (ltZ (pos 0) l) (natAbs l) (natAbs h)) × ((pos (pick (ltZ (pos 0) l) (natAbs l) (natAbs h)) ≡ l) ⊎ (negℤ (pos (pick (ltZ (pos 0) l) (natAbs l) (natAbs h))) ≡ h))
-distance-is-end (pos (suc n)) h e = rw (lt-ltb 0 (suc n) (omega arith)) (omega arith, inl refl)
-distance-is-end (pos zero) (negsuc m) e = (omega arith, inr refl)
-distance-is-end (negsuc n) (negsuc m) e = (omega arith, inr refl)
-distance-is-end (pos zero) (pos m) e = absurd (never m e)
-  where
-    never : (m : ℕ) → leZ (pos 0) (pos m) ≡ false → ⊥
-    never m e = let z : _≡_ {A = Bool} true false = sym (leb·zero m) ∙ e in subst T z tt
-distance-is-end (negsuc n) (pos m) e = absurd (never m e)
-  where
-    never : (m : ℕ) → leZ (pos 0) (pos m) ≡ false → ⊥
-    never m e = let z : _≡_ {A = Bool} true false = sym (leb·zero m) ∙ e in subst T z tt
 
 pub candidate-shaped : (squares : ℕ) (x : Row) → Shaped (candidate squares x)
 unfolding candidateLinear candidatePair
@@ -180,22 +162,23 @@ module _ (𝓞 : OrderedRing) where
   apart-from-zero e b fits far o0 (inl h) = above-zero e b fits far o0 h
   apart-from-zero e b fits far o0 (inr h) = below-zero e b fits far o0 h
 
-  module _ (ε : ℕ → C) (unital : Unit-symbols 𝓞 ε) (x : Row) (sx : Shaped x) (apart : zeroInRange x ≡ false) where
-    -- the form's value lies as far from 0 as the range does
-    pub value-apart : Apart (units (𝓞 .ring) x ε) (whole (pos (distance x)))
+  -- a value in a range that does not hold 0 lies as far from 0 as the range does
+  module _ (range : Range) (apart : zeroInRange range ≡ false) {X : C} (from : le (whole (range .low)) X) (to : le X (whole (range .high))) where
+    pub value-apart : Apart X (whole (pos (distance range)))
     unfolding Apart
-    value-apart = by-side (distance-is-end (low x) (high x) apart .1)
+    value-apart = by-side (distance-is-end range apart .1)
       where
-        by-side : (pos (distance x) ≡ low x) ⊎ (negℤ (pos (distance x)) ≡ high x)
-            → le (whole (pos (distance x))) (units (𝓞 .ring) x ε) ⊎ le (units (𝓞 .ring) x ε) (minus (whole (pos (distance x))))
-        by-side (inl e) = inl (subst (λ z. le (whole z) (units (𝓞 .ring) x ε)) (sym e) (low-holds-value 𝓞 ε unital x sx))
-        by-side (inr e) =
-            inr (le-cong 𝓞 (rfl _) (whole-minus 𝓞 (pos (distance x))) (subst (λ z. le (units (𝓞 .ring) x ε) (whole z)) (sym e) (high-holds-value 𝓞 ε unital x sx)))
+        by-side : (pos (distance range) ≡ range .low) ⊎ (negℤ (pos (distance range)) ≡ range .high)
+            → le (whole (pos (distance range))) X ⊎ le X (minus (whole (pos (distance range))))
+        by-side (inl e) = inl (subst (λ z. le (whole z) X) (sym e) from)
+        by-side (inr e) = inr (le-cong 𝓞 (rfl _) (whole-minus 𝓞 (pos (distance range))) (subst (λ z. le X (whole z)) (sym e) to))
 
-    -- reciprocal: W is the exact reciprocal, in units
+  -- reciprocal: the form's value lies in the operand's own range, and W is the exact reciprocal, in units
+  module _ (ε : ℕ → C) (unital : Unit-symbols 𝓞 ε) (x : Row) (sx : Shaped x) (range : Range) (apart : zeroInRange range ≡ false)
+      (from : le (whole (range .low)) (units (𝓞 .ring) x ε)) (to : le (units (𝓞 .ring) x ε) (whole (range .high))) where
     pub reciprocal-encloses : (squares : ℕ) → squares ≤ paired → UsesOnly squares x → (own : ℕ) → ε own ~ whole (pos 0)
         → (W : C) → W · units (𝓞 .ring) x ε ~ whole (pos unitSquared)
-        → Bound 𝓞 (W ⊹ minus (units (𝓞 .ring) (reciprocalRow squares own x (distance x)) ε)) (whole (pos (reciprocalOwn squares x (distance x))))
+        → Bound 𝓞 (W ⊹ minus (units (𝓞 .ring) (reciprocalRow squares own x (distance range)) ε)) (whole (pos (reciprocalOwn squares x (distance range))))
     unfolding reciprocalRow reciprocalOwn
     reciprocal-encloses squares few ux own off W exact =
         bound-cong 𝓞
@@ -203,10 +186,10 @@ module _ (𝓞 : OrderedRing) where
         (rfl _)
         (apart-from-zero exact
         (error-within ε unital squares few x (candidate squares x) sx (candidate-shaped squares x) ux (candidate-uses squares x))
-        (ceiling-enough (errorBound squares x (candidate squares x)) (distance x) positive)
+        (ceiling-enough (errorBound squares x (candidate squares x)) (distance range) positive)
         (whole-le 𝓞 (pos-≤ℤ positive))
         (whole-nonneg 𝓞 _)
-        value-apart)
+        (value-apart range apart from to))
       where
-        positive : 0 < distance x
-        positive = distance-is-end (low x) (high x) apart .0
+        positive : 0 < distance range
+        positive = distance-is-end range apart .0

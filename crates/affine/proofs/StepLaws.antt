@@ -3,16 +3,11 @@
 use mathlib.Core.Path.{_≡_, sym, ap, subst}
 use mathlib.Core.List.{List, [], _∷_}
 use Prim.Native.Nat.{ℕ, zero, suc}
-use native.Mathlib.Omega.{arith}
 use lib.IntN.{ℤ, pos, negsuc, _+ℤ_, _-ℤ_, _*ℤ_}
-use lib.Signed.{_≤ℤ_}
 use lib.ListN.{replicate}
-use Rattle.integer.specs.Floor.{floorRemainder}
 use Rattle.integer.proofs.Ring.{CommutativeRing, con, _⊕_, _⊖_, _⊗_, neg, _≐_, ring}
 use Rattle.integer.proofs.IntegerRing.{one-*ℤ, negℤ-is-product}
-use Rattle.integer.proofs.Linear.{linℤ, _⊴_, _≗_, _⇒_, so}
 use Rattle.integer.proofs.Certificate.{OrderedRing, certify, hyp, eqn, _⊞_, _≼_, _≋_, _⊢_}
-use Rattle.integer.proofs.Floor.{floor-divides, remainder-nonneg}
 use Rattle.integer.proofs.Bound.{Bound, whole-le, whole-minus}
 use Rattle.affine.specs.declared.Row.{Row}
 use Rattle.affine.specs.Limits.{symbols, pairs}
@@ -23,6 +18,7 @@ use Rattle.integer.proofs.Sum.{dot, dot-nil, dot-cons, dot-path}
 use Rattle.affine.proofs.Dot.{dot-tabulate-add, dot-tabulate-scale}
 use Rattle.affine.proofs.Form.{Shaped, pairValue, units}
 use Rattle.affine.proofs.Enclosure.{units-withOwn}
+use Rattle.affine.proofs.InputRow.{centre-below-middle}
 
 module _ (𝓡 : CommutativeRing) where
   open CommutativeRing 𝓡 using (Carrier as C, eq as _~_, add as _⊹_, mul as _·_, minus, whole, eq-refl as rfl, eq-sym as sy, eq-trans as _⨟_, add-cong, mul-cong, whole-add, whole-mul)
@@ -66,13 +62,6 @@ module _ (𝓡 : CommutativeRing) where
   pub subtract-exact : (x y : Row) → Shaped x → Shaped y → (ε : ℕ → C) → units 𝓡 (subtractRows x y) ε ~ units 𝓡 x ε ⊹ minus (units 𝓡 y ε)
   subtract-exact x y sx sy′ ε =
       zip-exact (λ a b. a -ℤ b) (negsuc 0) (λ a b. ap (λ z. a +ℤ z) (negℤ-is-product b)) x y sx sy′ ε ⨟ ring 𝓡 2 (λ x y. x ⊕ con (negsuc 0) ⊗ y ≐ x ⊖ y) tt _ _
-
--- the centre of an input is not above the middle
-pub centre-below-middle : (low high : ℤ) → (pos 2 *ℤ inputCentre low high) ≤ℤ (low +ℤ high)
-centre-below-middle low high =
-    linℤ 4 (λ q r l h. q ⊗ con (pos 2) ⊕ r ≗ l ⊕ h ⇒ con (pos 0) ⊴ r ⇒ so (con (pos 2) ⊗ q ⊴ l ⊕ h))
-    (inputCentre low high) (floorRemainder (low +ℤ high) (pos 2)) low high (omega arith)
-    (floor-divides (low +ℤ high) (pos 2) (λ e. let n : _≡_ {A = ℕ} 2 0 = cc in omega arith) .total) (remainder-nonneg (low +ℤ high) 2 (omega arith))
 
 module _ (𝓞 : OrderedRing) where
   open CommutativeRing (𝓞 .ring) using (Carrier as C, eq as _~_, add as _⊹_, mul as _·_, minus, whole, eq-refl as rfl, eq-sym as sy, eq-trans as _⨟_, add-cong, mul-cong, whole-add, whole-mul)

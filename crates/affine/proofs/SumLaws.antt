@@ -1,5 +1,5 @@
 -- Sums over a list: one element more, no part above the whole, numbers by index, a number changed. By induction on the list.
-use mathlib.Core.Path.{_≡_, refl, ap, _∙_}
+use mathlib.Core.Path.{_≡_, refl, ap, ap₂, _∙_}
 use mathlib.Core.List.{List, [], _∷_, map}
 use Prim.Native.Nat.{ℕ, zero, suc, _+_, _*_, _≤_, _<_}
 use native.Mathlib.Nat.{mul-add, mul-suc}
@@ -39,18 +39,19 @@ summed-all {n} {xs} {i} s h = let e : i ≡ n = omega arith in rw e at (s .so-fa
 pub summed-whole : {n : ℕ} {xs : List ℤ} {i total : ℕ} → Summed n xs i total → n ≤ i → length xs ≡ n → total ≡ sumAbs xs
 summed-whole {n} {xs} s h long = summed-all s h ∙ sumAbs-all xs n (omega arith)
 
--- ---- a sum of natural numbers f 0, f 1 and so on: it is the sum of their absolute values as whole numbers
-pub sumAbs-tabulate : (n : ℕ) (f : ℕ → ℕ) → sumAbs (tabulate n (λ i. pos (f i))) ≡ sum (tabulate n f)
+-- ---- sums of natural numbers f 0, f 1 and so on: two of them, term by term
+pub sum-tabulate-add : (n : ℕ) (f g : ℕ → ℕ) → sum (tabulate n f) + sum (tabulate n g) ≡ sum (tabulate n (λ i. f i + g i))
 unfolding sum tabulate
-sumAbs-tabulate zero f = refl
-sumAbs-tabulate (suc n) f = ap (λ m. f 0 + m) (sumAbs-tabulate n (λ i. f (suc i)))
+sum-tabulate-add zero f g = refl
+sum-tabulate-add (suc n) f g = omega (arith, sum-tabulate-add n (λ i. f (suc i)) (λ i. g (suc i)))
 
--- none of them above the absolute value of the number at its index
-pub sum-tabulate-le : (n : ℕ) (f : ℕ → ℕ) (xs : List ℤ) → ((i : ℕ) → f i ≤ natAbs (at xs i)) → sum (tabulate n f) ≤ sumAbs xs
+-- each of them the absolute value of the number at its index
+pub sum-tabulate-absolutes : (n : ℕ) (f : ℕ → ℕ) (xs : List ℤ) → length xs ≡ n → ((i : ℕ) → f i ≡ natAbs (at xs i)) → sum (tabulate n f) ≡ sumAbs xs
 unfolding sum tabulate
-sum-tabulate-le zero f xs h = omega arith
-sum-tabulate-le (suc n) f [] h = let t = sum-tabulate-le n (λ i. f (suc i)) [] (λ i. h (suc i)) in omega (arith, h 0)
-sum-tabulate-le (suc n) f (x ∷ xs) h = let t = sum-tabulate-le n (λ i. f (suc i)) xs (λ i. h (suc i)) in omega (arith, h 0)
+sum-tabulate-absolutes zero f [] l h = refl
+sum-tabulate-absolutes zero f (x ∷ xs) l h = absurd (omega arith)
+sum-tabulate-absolutes (suc n) f [] l h = absurd (omega arith)
+sum-tabulate-absolutes (suc n) f (x ∷ xs) l h = ap₂ (λ a b. a + b) (h 0) (sum-tabulate-absolutes n (λ i. f (suc i)) xs (omega arith) (λ i. h (suc i)))
 
 -- ---- the absolute values of numbers by index: those of a list
 pub sumAbs-tabulate-at : (n : ℕ) (xs : List ℤ) → sumAbs (tabulate n (at xs)) ≤ sumAbs xs

@@ -20,7 +20,7 @@ use Rattle.affine.proofs.Lists.{length-tabulate, at-tabulate}
 use Rattle.affine.proofs.Form.{Shaped, UsesOnly}
 use Rattle.affine.proofs.Support.{FreeOf, NoPairOf, at-map, at-replicate, totals-free, map-free, candidate-free}
 use Rattle.affine.proofs.Enclosure.{candidate-shaped, candidate-uses}
-use Rattle.affine.proofs.StepLaws.{centre-below-middle}
+use Rattle.affine.proofs.InputRow.{centre-below-middle}
 
 -- ---- a row's numbers
 pub length-replicate : (n : ℕ) → length (replicate n (pos 0)) ≡ n

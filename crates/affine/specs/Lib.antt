@@ -6,4 +6,5 @@ pub mod Steps
 pub mod Product
 pub mod Reciprocal
 pub mod Capped
+pub mod Measured
 pub mod Form

@@ -2,27 +2,30 @@
 -- candidate less 1, as in (19)".
 use mathlib.Core.Bool.{Bool, false}
 use mathlib.Core.List.{List}
-use Prim.Native.Nat.{ℕ, _+_}
+use mathlib.Core.Path.{_≡_}
+use Prim.Native.Nat.{ℕ, _+_, _≤_, _<_}
 use lib.IntN.{ℤ, pos, negℤ, natAbs, _+ℤ_, _-ℤ_, _*ℤ_}
 use lib.Signed.{leZ, ltZ}
 use Rattle.integer.specs.Floor.{floorQuotient, ceilingQuotient}
+use Rattle.integer.specs.Sum.{sumAbs}
 use Rattle.affine.specs.declared.Row.{Row}
+use Rattle.affine.specs.declared.Range.{Range}
 use Rattle.affine.specs.declared.Status.the-variants.{SpanPassed, ZeroInRange}
 use Rattle.affine.specs.declared.Answer.{Answer}
 use Rattle.affine.specs.Limits.{symbols, pairs, unitSquared}
 use Rattle.affine.specs.Lists.{pick, at, tabulate}
 use Rattle.affine.specs.PairOrder.{firstOf, secondOf, inUse}
-use Rattle.affine.specs.Row.{span, withinSpan, low, high}
+use Rattle.affine.specs.Row.{span, withinSpan}
 use Rattle.affine.specs.Steps.{withOwn, refused, checked}
 use Rattle.affine.specs.Product.{meeting, totals, dropped}
 
 -- "reciprocal where low is at most 0 and high at least 0"
-abbrev pub zeroInRange : Row → Bool
-zeroInRange r = pick (leZ (low r) (pos 0)) (leZ (pos 0) (high r)) false
+abbrev pub zeroInRange : Range → Bool
+zeroInRange own = pick (leZ (own .low) (pos 0)) (leZ (pos 0) (own .high)) false
 
--- "a the distance of its range from 0"
-abbrev pub distance : Row → ℕ
-distance r = pick (ltZ (pos 0) (low r)) (natAbs (low r)) (natAbs (high r))
+-- "a the distance of its range from 0": "an input row's range is its own low and high, and a reciprocal takes its distance from 0 from that"
+abbrev pub distance : Range → ℕ
+distance own = pick (ltZ (pos 0) (own .low)) (natAbs (own .low)) (natAbs (own .high))
 
 -- "for each symbol, (-N × coefficient) / c²"
 abbrev pub slope : ℤ → ℤ → ℤ
@@ -71,7 +74,16 @@ abbrev pub reciprocalApart : ℕ → ℕ → Row → ℕ → Answer
 reciprocalApart squares own x a =
     pick (withinSpan (candidate squares x)) (checked (reciprocalRow squares own x a)) (refused SpanPassed)
 
--- "7 before 6"
-abbrev pub reciprocal : ℕ → ℕ → Row → Answer
-reciprocal squares own x =
-    pick (zeroInRange x) (refused ZeroInRange) (reciprocalApart squares own x (distance x))
+-- "7 before 6": of an operand x with its own range
+abbrev pub reciprocal : ℕ → ℕ → Row → Range → Answer
+reciprocal squares own x range =
+    pick (zeroInRange range) (refused ZeroInRange) (reciprocalApart squares own x (distance range))
+
+-- ---- what the code asks of an operand (not of the specification): where its range does not hold 0, its centre is not 0 and no smaller than its
+-- linear coefficients together
+pub record Outweighs (x : Row) : Type 0 where
+  pub some : 0 < natAbs (x .centre)
+  pub within : sumAbs (x .linear) ≤ natAbs (x .centre)
+
+abbrev pub ApartOutweighs : Range → Row → Type 0
+ApartOutweighs range x = zeroInRange range ≡ false → Outweighs x

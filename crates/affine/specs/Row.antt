@@ -6,6 +6,7 @@ use lib.Dec.{leb}
 use lib.IntN.{ℤ, pos, negsuc, natAbs, _+ℤ_, _-ℤ_}
 use Rattle.integer.specs.Sum.{sumAbs}
 use Rattle.affine.specs.declared.Row.{Row}
+use Rattle.affine.specs.declared.Range.{Range}
 use Rattle.affine.specs.Limits.{pairs, spanLimit}
 use Rattle.affine.specs.Lists.{pick, at, tabulate, sum, equal}
 use Rattle.affine.specs.PairOrder.{isSquare}
@@ -62,3 +63,7 @@ low r = r .centre -ℤ pos (sumAbs (r .linear) + pairsBelow (r .pair))
 -- "High is the mirror of that, with the positive ones."
 unfoldable pub high : Row → ℤ
 high r = r .centre +ℤ pos (sumAbs (r .linear) + pairsAbove (r .pair))
+
+-- both ends: the range of a row's form
+abbrev pub formRange : Row → Range
+formRange r = record { low = low r; high = high r }

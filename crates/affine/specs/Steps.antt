@@ -5,12 +5,13 @@ use lib.IntN.{ℤ, pos, _+ℤ_, _-ℤ_}
 use lib.ListN.{set, replicate}
 use Rattle.integer.specs.Floor.{floorQuotient}
 use Rattle.affine.specs.declared.Row.{Row}
+use Rattle.affine.specs.declared.Range.{Range}
 use Rattle.affine.specs.declared.Status.{Status}
 use Rattle.affine.specs.declared.Status.the-variants.{Accepted, SpanPassed, ZeroInRange}
 use Rattle.affine.specs.declared.Answer.{Answer}
 use Rattle.affine.specs.Limits.{symbols, pairs}
 use Rattle.affine.specs.Lists.{pick, at, tabulate}
-use Rattle.affine.specs.Row.{withinSpan}
+use Rattle.affine.specs.Row.{withinSpan, formRange}
 
 -- a row with one centre and no coefficient: "Constant: centre alone."
 abbrev pub constantRow : ℤ → Row
@@ -53,13 +54,25 @@ number Accepted = 0
 number SpanPassed = 6
 number ZeroInRange = 7
 
-abbrev pub accepted : Row → Answer
-accepted r = record { status = Accepted; row = r }
+-- a row and its own range
+abbrev pub accepted : Row → Range → Answer
+accepted r own = record { status = Accepted; row = r; range = own }
 
 -- "Beside a refusal every other answer is 0"
 abbrev pub refused : Status → Answer
-refused s = record { status = s; row = constantRow (pos 0) }
+refused s = record { status = s; row = constantRow (pos 0); range = record { low = pos 0; high = pos 0 } }
 
 -- "span passed, by a new row"
+abbrev pub checkedWith : Row → Range → Answer
+checkedWith r own = pick (withinSpan r) (accepted r own) (refused SpanPassed)
+
+-- the own range of a row is that of its form ..
 abbrev pub checked : Row → Answer
-checked r = pick (withinSpan r) (accepted r) (refused SpanPassed)
+checked r = checkedWith r (formRange r)
+
+-- .. but "an input row's range is its own low and high"
+abbrev pub endsRange : ℤ → ℤ → Range
+endsRange low high = record { low = low; high = high }
+
+abbrev pub inputAnswer : ℕ → ℤ → ℤ → Answer
+inputAnswer own low high = checkedWith (inputRow own low high) (endsRange low high)

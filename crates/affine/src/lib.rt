@@ -1,10 +1,10 @@
 // Row arithmetic: affine forms with square terms, in whole numbers of 1/4096.
-// The six ways a row comes about are `input`, `constant`, `add`, `subtract`, `multiply` and `invert` (the reciprocal); `within_span`,
-// `range_of` and `same_numbers` tell of rows.
+// The six ways a row comes about are `input`, `constant`, `add`, `subtract`, `multiply` and `invert` (the reciprocal); `within_span` and
+// `same_numbers` tell of rows.
+mod form_range;
 pub mod limits;
 mod pair_order;
 pub mod product;
-pub mod range;
 pub mod reciprocal;
 pub mod steps;
 pub mod sums;
@@ -19,6 +19,12 @@ pub struct Row {
     pub pair: [i64; PAIRS],
 }
 
+// The low and the high end of what a row's value may be.
+pub struct Range {
+    pub low: i64,
+    pub high: i64,
+}
+
 // How an operation ended.
 pub enum Status {
     Accepted,
@@ -26,8 +32,9 @@ pub enum Status {
     ZeroInRange,
 }
 
-// The answer of an operation: the row where it was accepted, zeros beside a refusal.
+// The answer of an operation: the row and its own range where it was accepted, zeros beside a refusal.
 pub struct Answer {
     pub status: Status,
     pub row: Row,
+    pub range: Range,
 }

@@ -1,5 +1,6 @@
 // The reciprocal of a row.
 use crate::Answer;
+use crate::Range;
 use crate::Row;
 use crate::Status;
 use crate::limits::PAIRS;
@@ -26,6 +27,7 @@ ghost use Rattle.affine.specs.Reciprocal.{
   errorBound,
   reciprocalApart,
   reciprocal,
+  ApartOutweighs,
 };
 
 // A coefficient of the candidate: minus N times the operand's, divided by the square of the centre c.
@@ -141,7 +143,7 @@ fn error_bound<'a, 'b>(
 // The reciprocal of a row whose range lies at a distance from 0, in the row that owns the symbol at index own.
 fn reciprocal_apart(x: Row, distance: u64, squares: usize, own: usize) -> Answer
     requires { ⌜ (squares ≤ paired) × (own < symbols) × (span x ≤ spanLimit) ⌝ }
-    requires { ⌜ (0 < distance) × (sumAbs (x .linear) + distance ≤ natAbs (x .centre)) ⌝ }
+    requires { ⌜ (0 < distance) × (0 < natAbs (x .centre)) × (sumAbs (x .linear) ≤ natAbs (x .centre)) ⌝ }
     ensures { λ r. ⌜ r ≡ reciprocalApart squares own x distance ⌝ }
 {
     let z = candidate_row(x, squares);
@@ -156,12 +158,11 @@ fn reciprocal_apart(x: Row, distance: u64, squares: usize, own: usize) -> Answer
     crate::steps::check(row)
 }
 
-// The reciprocal of a row, in the row that owns the symbol at index own.
-pub fn invert(x: Row, squares: usize, own: usize) -> Answer
-    requires { ⌜ (squares ≤ paired) × (own < symbols) × (span x ≤ spanLimit) ⌝ }
-    ensures { λ r. ⌜ r ≡ reciprocal squares own x ⌝ }
+// The reciprocal of a row with its own range, in the row that owns the symbol at index own.
+pub fn invert(x: Row, range: Range, squares: usize, own: usize) -> Answer
+    requires { ⌜ (squares ≤ paired) × (own < symbols) × (span x ≤ spanLimit) × ApartOutweighs range x ⌝ }
+    ensures { λ r. ⌜ r ≡ reciprocal squares own x range ⌝ }
 {
-    let range = crate::range::range_of(x);
     let low = range.low;
     let high = range.high;
     if low > 0 {

@@ -1,9 +1,9 @@
 // The rows of inputs, constants, sums and differences.
 use crate::Answer;
+use crate::Range;
 use crate::Row;
 use crate::Status;
 use crate::limits::PAIRS;
-use crate::limits::SPAN_LIMIT;
 use crate::limits::SYMBOLS;
 ghost use mathlib.Core.Path.{_≡_};
 ghost use Prim.Native.Nat.{_^_, _≤_, _<_};
@@ -11,9 +11,10 @@ ghost use lib.IntN.{natAbs, _+ℤ_, _-ℤ_};
 ghost use lib.ListN.{length};
 ghost use Rattle.integer.specs.Sum.{sumAbs};
 ghost use Rattle.affine.specs.Limits.{symbols, spanLimit};
-ghost use Rattle.affine.specs.Lists.{at, tabulate};
+ghost use Rattle.affine.specs.declared.Status.the-variants.{SpanPassed};
+ghost use Rattle.affine.specs.Lists.{pick, at, tabulate};
 ghost use Rattle.affine.specs.Row.{span};
-ghost use Rattle.affine.specs.Steps.{constantRow, inputRow, addRows, subtractRows, refused, checked};
+ghost use Rattle.affine.specs.Steps.{constantRow, addRows, subtractRows, accepted, refused, checked, inputAnswer};
 
 pub fn constant_row(v: i64) -> Row
     ensures { λ r. ⌜ r ≡ constantRow v ⌝ }
@@ -30,23 +31,37 @@ pub fn refusal(status: Status) -> Answer
     ensures { λ r. ⌜ r ≡ refused status ⌝ }
 {
     let row = constant_row(0);
-    Answer { status, row }
+    Answer {
+        status,
+        row,
+        range: Range { low: 0, high: 0 },
+    }
 }
 
-// A row as the answer, or the refusal where its span is passed.
+// A row and its own range as the answer, or the refusal where it is not within the span limit.
+fn answer(within: bool, row: Row, range: Range) -> Answer
+    ensures { λ r. ⌜ r ≡ pick within (accepted row range) (refused SpanPassed) ⌝ }
+{
+    if within {
+        Answer {
+            status: Status::Accepted,
+            row,
+            range,
+        }
+    } else {
+        refusal(Status::SpanPassed)
+    }
+}
+
+// A row and the range of its form as the answer, or the refusal where its span is passed.
 pub fn check(row: Row) -> Answer
     requires { ⌜ span row < 2 ^ 64 ⌝ }
     ensures { λ r. ⌜ r ≡ checked row ⌝ }
 {
     let c = row.centre;
-    if crate::sums::span_of(c, &row.linear, &row.pair) <= SPAN_LIMIT {
-        Answer {
-            status: Status::Accepted,
-            row,
-        }
-    } else {
-        refusal(Status::SpanPassed)
-    }
+    let measured = crate::form_range::measure(c, &row.linear, &row.pair);
+    let range = measured.range;
+    answer(measured.within, row, range)
 }
 
 pub fn constant(v: i64) -> Answer
@@ -56,15 +71,16 @@ pub fn constant(v: i64) -> Answer
     check(row)
 }
 
-// The row of an input that owns the symbol at index own.
+// The row of an input that owns the symbol at index own; its range is its ends.
 pub fn input(own: usize, low: i64, high: i64) -> Answer
     requires { ⌜ (own < symbols) × (natAbs low ≤ spanLimit) × (natAbs high ≤ spanLimit) ⌝ }
-    ensures { λ r. ⌜ r ≡ checked (inputRow own low high) ⌝ }
+    ensures { λ r. ⌜ r ≡ inputAnswer own low high ⌝ }
 {
     let centre = integer::division::floor_quotient(low + high, 2);
     let mut row = constant_row(centre);
     row.linear[own] = high - centre;
-    check(row)
+    let measured = crate::form_range::measure(centre, &row.linear, &row.pair);
+    answer(measured.within, row, Range { low, high })
 }
 
 // Puts the sums of two lists' numbers.

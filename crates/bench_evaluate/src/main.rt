@@ -1,5 +1,5 @@
 // Evaluates one sheet many times, for measuring how long that takes. Standard input has a line with a count N, and then a sheet; the program
-// prints N and the range of the last row after N evaluations into one table, or the refusal. `checker/bench_evaluate.py` makes the same line.
+// prints N and the range of the last row after N evaluations into the same tables, or the refusal. `checker/bench_evaluate.py` makes the same line.
 use libc::STDIN_FILENO;
 use libc::STDOUT_FILENO;
 use sheet::Refusal;
@@ -10,8 +10,10 @@ const MOST_TURNS: usize = 10000000;
 const MOST_DIGITS: usize = 8;
 // The count's line, and one byte more than a sheet may have: that a sheet is longer is noticed.
 const ROOM: usize = MOST_DIGITS + 1 + sheet::MAX_BYTES + 1;
-// 52 numbers for each of 30 rows.
+// 52 numbers for each of 30 rows, and two for each range.
 const TABLE_NUMBERS: usize = 1560;
+
+const RANGES_NUMBERS: usize = 60;
 
 struct Digits {
     value: usize,
@@ -47,14 +49,19 @@ fn print_refusal(refusal: Refusal) {
 }
 
 // The answer of the last of so many evaluations.
-fn evaluate_again(schedule: Schedule, table: &mut [i64], turns: usize) -> Refusal {
+fn evaluate_again(
+    schedule: Schedule,
+    table: &mut [i64],
+    ranges: &mut [i64],
+    turns: usize,
+) -> Refusal {
     let mut refusal = Refusal {
         number: 0,
         place: 0,
     };
     let mut left = turns;
     while left > 0 {
-        refusal = evaluation::evaluate(schedule, &mut *table);
+        refusal = evaluation::evaluate(schedule, &mut *table, &mut *ranges);
         left -= 1;
     }
     refusal
@@ -62,13 +69,14 @@ fn evaluate_again(schedule: Schedule, table: &mut [i64], turns: usize) -> Refusa
 
 fn evaluate_and_print(schedule: Schedule, turns: usize) {
     let mut table = [0i64; TABLE_NUMBERS];
-    let refusal = evaluate_again(schedule, &mut table, turns);
+    let mut ranges = [0i64; RANGES_NUMBERS];
+    let refusal = evaluate_again(schedule, &mut table, &mut ranges, turns);
     if refusal.number != 0 {
         print_refusal(refusal);
         return;
     }
     let last = evaluation::row_count(schedule);
-    print_range(turns, evaluation::range(&table, last, last));
+    print_range(turns, evaluation::range(&table, &ranges, last, last));
 }
 
 fn read_and_print(bytes: &[u8], turns: usize) {

@@ -1,68 +1,83 @@
--- What an accepted evaluation shows: its schedule passed, the table has room, every row was worked, and the table holds them.
-use mathlib.Core.Path.{_≡_, sym, ap, _∙_}
+-- What an accepted evaluation shows: its schedule passed, both tables have room, every row was worked, and the tables hold the rows and their ranges.
+use mathlib.Core.Path.{_≡_, refl, sym, ap, _∙_, subst}
 use mathlib.Core.Logic.{_⊎_, inl, inr}
-use mathlib.Core.List.{List, _++_}
+use mathlib.Core.List.{List}
 use Prim.Native.Nat.{ℕ, _*_, _≤_, _<_}
 use native.Mathlib.Omega.{arith}
 use native.Mathlib.Decide.{ℕ-discrete}
-use lib.IntN.{ℤ, pos}
-use lib.ListN.{length, getD, drop}
-use Rattle.affine.specs.Limits.{symbols}
-use Rattle.affine.specs.Row.{numbers}
-use Rattle.affine.specs.Steps.{constantRow}
+use lib.IntN.{ℤ}
+use lib.ListN.{length}
+use Rattle.affine.specs.Limits.{symbols, spanLimit}
 use Rattle.sheet.specs.declared.Schedule.{Schedule}
 use Rattle.sheet.specs.Writing.{testOf}
 use Rattle.sheet.proofs.Passed.{Passed, passed}
-use Rattle.evaluation.specs.Table.{rowWidth, rowPart, allNumbers, tableAfter, RowsWithin}
-use Rattle.evaluation.specs.Work.{rowCount, evaluated}
-use Rattle.evaluation.proofs.EvaluationEnds.{ends-tested, ends-short, ends-worked}
+use Rattle.evaluation.specs.Table.{rowWidth, rangeWidth, tableAfter, rangesAfter, rangeAt, RowsWithin, RangesOrdered}
+use Rattle.evaluation.specs.Work.{rowCount, answeredRanges, Worked, evaluated, worked}
+use Rattle.evaluation.proofs.EvaluationEnds.{ends-tested, ends-short, ends-short-ranges, ends-worked}
 use Rattle.evaluation.proofs.Induction.{lt-or-ge}
-use Rattle.evaluation.proofs.Made.{rows-few}
-use Rattle.evaluation.proofs.Sequence.{length-grown, getD-grown}
+use Rattle.evaluation.proofs.OwnRanges.{RangeWithin, own-within}
+use Rattle.evaluation.proofs.RowLines.{rows-few}
 use Rattle.evaluation.proofs.SoundRows.{row-sound}
-use Rattle.evaluation.proofs.TableLaws.{length-numbers, rowPart-numbers}
 use Rattle.evaluation.proofs.WorkLaws.{nextRow, rowsUpTo, Went, went}
-use Rattle.evaluation.proofs.WorkedTable.{rows-within}
+use Rattle.evaluation.proofs.WorkedTable.{WorkedInto, rows-within, ranges-ordered, range-held}
 
 -- an accepted evaluation passed 3, 4 and 5, had room, and worked all its rows
-pub record AcceptedEvaluation (c : Schedule) (table : List ℤ) : Type 0 where
+pub record AcceptedEvaluation (c : Schedule) (table ranges : List ℤ) : Type 0 where
   pub pass : Passed c
   pub room : rowWidth * rowCount c ≤ length table
+  pub room-ranges : rangeWidth * rowCount c ≤ length ranges
   pub goes : Went c (rowCount c)
-  pub rows : evaluated c table .rows ≡ rowsUpTo c (rowCount c)
+  pub rows : evaluated c table ranges .rows ≡ rowsUpTo c (rowCount c)
 
-pub accepted-evaluation : (c : Schedule) (table : List ℤ) → evaluated c table .refusal .number ≡ 0 → AcceptedEvaluation c table
-accepted-evaluation c table e = by-test (ℕ-discrete (testOf c .number) 0) (lt-or-ge (length table) (rowWidth * rowCount c))
-  where
-    by-test : Dec (testOf c .number ≡ 0) → (length table < rowWidth * rowCount c) ⊎ (rowWidth * rowCount c ≤ length table) → AcceptedEvaluation c table
-    by-test (no z) r = absurd (z (sym (ap (λ w. w .refusal .number) (ends-tested c table z)) ∙ e))
-    by-test (yes z) (inl l) = absurd (let q : _≡_ {A = ℕ} 8 0 = sym (ap (λ w. w .refusal .number) (ends-short c table z l)) ∙ e in omega arith)
-    by-test (yes z) (inr l) =
-        let q = ends-worked c table z l in
-        let w = went c (rowCount c) (sym (ap (λ w. w .refusal .number) q) ∙ e) in
-        record { pass = passed c z; room = l; goes = w; rows = ap (λ w. w .rows) q ∙ w .rows }
+module _ (c : Schedule) (table ranges : List ℤ) (e : evaluated c table ranges .refusal .number ≡ 0) where
+  -- an evaluation that ended so was not accepted
+  not-so : {w : Worked} {n : ℕ} → evaluated c table ranges ≡ w → w .refusal .number ≡ n → n ≡ 0
+  not-so q r = sym r ∙ ap (λ w. w .refusal .number) (sym q) ∙ e
 
--- its rows are few, and the table that it leaves holds them
-pub rows-left-few : (c : Schedule) (table : List ℤ) → evaluated c table .refusal .number ≡ 0 → rowCount c ≤ symbols
-rows-left-few c table e = rows-few c (accepted-evaluation c table e .pass)
+  pub accepted-evaluation : AcceptedEvaluation c table ranges
+  accepted-evaluation =
+      by-test (ℕ-discrete (testOf c .number) 0) (lt-or-ge (length table) (rowWidth * rowCount c)) (lt-or-ge (length ranges) (rangeWidth * rowCount c))
+    where
+      by-test : Dec (testOf c .number ≡ 0) → (length table < rowWidth * rowCount c) ⊎ (rowWidth * rowCount c ≤ length table)
+          → (length ranges < rangeWidth * rowCount c) ⊎ (rangeWidth * rowCount c ≤ length ranges) → AcceptedEvaluation c table ranges
+      by-test (no z) r s = absurd (z (not-so (ends-tested c table ranges z) refl))
+      by-test (yes z) (inl l) s = absurd (let q : _≡_ {A = ℕ} 8 0 = not-so (ends-short c table ranges z l) refl in omega arith)
+      by-test (yes z) (inr l) (inl k) = absurd (let q : _≡_ {A = ℕ} 8 0 = not-so (ends-short-ranges c table ranges z l k) refl in omega arith)
+      by-test (yes z) (inr l) (inr k) =
+          let q = ends-worked c table ranges z l k in
+          let w = went c (rowCount c) (not-so q refl) in
+          record { pass = passed c z; room = l; room-ranges = k; goes = w; rows = ap (λ w. w .rows) q ∙ w .rows }
 
-pub rows-left-within : (c : Schedule) (table : List ℤ) → evaluated c table .refusal .number ≡ 0 → RowsWithin (tableAfter (evaluated c table .rows) table) (rowCount c)
-rows-left-within c table e =
-    let a = accepted-evaluation c table e in
-    rows-within
-    (record { none-refused = ap (λ r. r .number) (a .goes .refusal); left = ap (λ rows. tableAfter rows table) (a .rows ∙ sym (a .goes .rows)) })
-    (a .room)
+  -- its rows are few
+  pub rows-left-few : rowCount c ≤ symbols
+  rows-left-few = rows-few c (accepted-evaluation .pass)
 
--- the part of each row is what the work made of it, whatever the table held before
-pub part-left : (c : Schedule) (table : List ℤ) → evaluated c table .refusal .number ≡ 0 → (i : ℕ) → i < rowCount c
-    → rowPart (tableAfter (evaluated c table .rows) table) i ≡ numbers (nextRow c (rowsUpTo c i))
-unfolding tableAfter
-part-left c table e i h =
-    let n = rowCount c in
-    let rows = rowsUpTo c n in
-    let made : (j : ℕ) → j < n → getD rows j (constantRow (pos 0)) ≡ nextRow c (rowsUpTo c j) = λ j l. getD-grown (nextRow c) n (constantRow (pos 0)) j l in
-    let long : length rows ≡ n = length-grown (nextRow c) n in
-    ap (λ l. rowPart (allNumbers l ++ drop (rowWidth * length l) table) i) (accepted-evaluation c table e .rows)
-    ∙ rowPart-numbers rows (drop (rowWidth * length rows) table) i (constantRow (pos 0)) (omega arith)
-    (λ j l. ap (λ r. length (numbers r)) (made j (omega arith)) ∙ length-numbers (nextRow c (rowsUpTo c j)) (row-sound c (rowsUpTo c j) .shaped))
-    ∙ ap numbers (made i h)
+  -- the tables that it leaves
+  abbrev left : List ℤ
+  left = tableAfter (evaluated c table ranges .rows) table
+
+  abbrev leftRanges : List ℤ
+  leftRanges = rangesAfter (answeredRanges c (evaluated c table ranges .rows)) ranges
+
+  -- they hold the rows and their ranges
+  pub worked-left : WorkedInto c (rowCount c) table left ranges leftRanges
+  worked-left =
+      let a = accepted-evaluation in
+      let q : evaluated c table ranges .rows ≡ worked c (rowCount c) .rows = a .rows ∙ sym (a .goes .rows) in
+      record {
+        none-refused = ap (λ r. r .number) (a .goes .refusal);
+        left = ap (λ rows. tableAfter rows table) q;
+        told = ap (λ rows. rangesAfter (answeredRanges c rows) ranges) q;
+      }
+
+  pub rows-left-within : RowsWithin left (rowCount c)
+  rows-left-within = rows-within worked-left (accepted-evaluation .room)
+
+  -- no low is above its high
+  pub ranges-left-ordered : RangesOrdered leftRanges (rowCount c)
+  ranges-left-ordered = ranges-ordered worked-left (accepted-evaluation .pass) (accepted-evaluation .room-ranges)
+
+  -- no end is beyond the span limit
+  pub ranges-left-within : (i : ℕ) → i < rowCount c → RangeWithin spanLimit (rangeAt leftRanges i)
+  ranges-left-within i h =
+      subst (RangeWithin spanLimit) (sym (range-held worked-left i h)) (own-within c (accepted-evaluation .pass) i (nextRow c (rowsUpTo c i)) (row-sound c (rowsUpTo c i)))

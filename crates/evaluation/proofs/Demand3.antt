@@ -14,39 +14,37 @@ use Rattle.integer.proofs.Ring.{con, _⊖_, _⊗_, neg, _≐_, ring}
 use Rattle.integer.proofs.Fraction.{ringOfFractions, orderedFractions, ≈-refl, ≈-sym, ≈-trans, +ℚ-cong, *ℚ-cong, times-quotient, not-below-of-≤ℚ}
 use Rattle.integer.proofs.Bound.{le-cong}
 use Rattle.affine.specs.declared.Row.{Row}
+use Rattle.affine.specs.declared.Range.{Range}
 use Rattle.affine.specs.Limits.{unit}
 use Rattle.affine.specs.Lists.{pick, at, equal}
 use Rattle.affine.specs.Form.{formValue}
-use Rattle.affine.specs.Row.{low, high}
 use Rattle.affine.specs.Steps.{constantRow}
 use Rattle.affine.proofs.Form.{Shaped, units}
 use Rattle.affine.proofs.Support.{FreeOf}
-use Rattle.affine.proofs.RangeLaws.{low-holds-value, high-holds-value}
 use Rattle.affine.proofs.Sameness.{same-is-equal}
-use Rattle.affine.proofs.Enclosure.{value-apart, distance-is-end}
-use Rattle.affine.specs.Reciprocal.{distance}
 use Rattle.sheet.specs.declared.Schedule.{Schedule}
 use Rattle.sheet.specs.Causes.{accepted}
 use Rattle.sheet.specs.Limits.{lastCode}
 use Rattle.sheet.specs.Lines.{natural, stepAt}
-use Rattle.evaluation.specs.Table.{rowWidth, tableAfter, rowOfNumbers, rowAt, RowsWithin}
-use Rattle.evaluation.specs.Work.{rowCount}
-use Rattle.evaluation.specs.Asking.{rowRefusal, rowsRefusal, rangeTold, rangeRefused, rangeOf, compared, notCompared, sameOf}
+use Rattle.evaluation.specs.Table.{rowWidth, rangeWidth, tableAfter, rangesAfter, rowOfNumbers, rangeOfNumbers, rowAt, rangeAt}
+use Rattle.evaluation.specs.Work.{rowCount, rowOf, answeredRanges}
+use Rattle.evaluation.specs.Asking.{rangeRefusal, rowsRefusal, rangeTold, rangeRefused, rangeOf, compared, notCompared, sameOf}
 use Rattle.evaluation.specs.declared.RangeAnswer.{RangeAnswer}
 use Rattle.evaluation.specs.declared.SameAnswer.{SameAnswer}
-use Rattle.evaluation.specs.Values.{Within, FromMinusOneToOne, exactValue, rowOf, ownOf, symbolsOf, nextFound, foundValues, foundValue}
-use Rattle.evaluation.specs.Demand3.{InputsWithin, StillHolds, Demand3, Demand-3}
+use Rattle.evaluation.specs.Values.{Within, FromMinusOneToOne, exactValue, ownOf, symbolsOf, nextFound, foundValues, foundValue}
+use Rattle.evaluation.specs.Demand3.{InputsWithin, StillHolds, RangeStillHolds, Demand3, Demand-3}
 use Rattle.evaluation.proofs.Sequence.{grown, length-grown, getD-grown, getD-beyond}
 use Rattle.evaluation.proofs.Induction.{AtFound, at-found}
 use Rattle.evaluation.proofs.WorkLaws.{nextRow, rowsUpTo, Went}
 use Rattle.sheet.proofs.Passed.{Passed}
-use Rattle.evaluation.proofs.Made.{row, divisor-of, rows-few}
+use Rattle.evaluation.proofs.Made.{row, range, divisor-of}
+use Rattle.evaluation.proofs.RowLines.{rows-few}
 use Rattle.evaluation.proofs.RowFacts.{fact, own, own-is, alone, owned}
-use Rattle.evaluation.proofs.RowEnclosure.{X, negℚ-cong, row-encloses, apart-nonzero}
-use Rattle.evaluation.proofs.SoundRows.{Sound, row-sound}
-use Rattle.evaluation.proofs.WorkedTable.{rowAt-tableAfter, rowsWithin-tableAfter}
+use Rattle.evaluation.proofs.RowEnclosure.{X, negℚ-cong, in-own, own-apart, row-encloses}
+use Rattle.evaluation.proofs.SoundRows.{row-sound}
+use Rattle.evaluation.proofs.WorkedTable.{WorkedInto, rows-within, ranges-ordered, row-held, range-held}
 use Rattle.evaluation.proofs.AskingLaws.{range-told-of}
-use Rattle.evaluation.proofs.AcceptedEvaluation.{accepted-evaluation}
+use Rattle.evaluation.proofs.AcceptedEvaluation.{accepted-evaluation, worked-left}
 use Rattle.evaluation.proofs.FractionUnits.{scaled, scaled-form, scaled-cong, ≈-of-scaled, within-of-scaled}
 
 -- ---- found values grow as rows do
@@ -79,12 +77,15 @@ unfolding nextFound
 found-some c x rows n e = rw (length-found c x rows n, e)
 
 -- ---- an accepted call's answer
-range-told : (lent : List ℤ) (n r : ℕ) → rangeOf lent n r .refusal ≡ accepted → rangeOf lent n r ≡ rangeTold (rowAt lent (r - 1))
+range-told : (lent lentRanges : List ℤ) (n r : ℕ) → rangeOf lent lentRanges n r .refusal ≡ accepted → rangeOf lent lentRanges n r ≡ rangeTold (rangeAt lentRanges (r - 1))
 unfolding rangeOf
-range-told lent n r e = by-test (eqb (rowRefusal lent n r .number) 0) refl e
+range-told lent lentRanges n r e = by-test (eqb (rangeRefusal lent lentRanges n r .number) 0) refl e
   where
-    by-test : (t : Bool) → eqb (rowRefusal lent n r .number) 0 ≡ t → pick t (rangeTold (rowAt lent (r - 1))) (rangeRefused (rowRefusal lent n r)) .refusal ≡ accepted
-        → pick t (rangeTold (rowAt lent (r - 1))) (rangeRefused (rowRefusal lent n r)) ≡ rangeTold (rowAt lent (r - 1))
+    told : RangeAnswer
+    told = rangeTold (rangeAt lentRanges (r - 1))
+
+    by-test : (t : Bool) → eqb (rangeRefusal lent lentRanges n r .number) 0 ≡ t → pick t told (rangeRefused (rangeRefusal lent lentRanges n r)) .refusal ≡ accepted
+        → pick t told (rangeRefused (rangeRefusal lent lentRanges n r)) ≡ told
     by-test true q e = refl
     by-test false q e = absurd (eqb-false _ _ q (ap (λ s. s .number) e))
 
@@ -107,6 +108,9 @@ module _ (c : Schedule) (pass : Passed c) (x : ℕ → Fraction) (within : Input
 
   abbrev f : ℕ → Row
   f n = row c pass x n
+
+  abbrev g : ℕ → Range
+  g n = range c pass x n
 
   abbrev o : ℕ → ℕ
   o n = own c pass x went n
@@ -179,72 +183,74 @@ module _ (c : Schedule) (pass : Passed c) (x : ℕ → Fraction) (within : Input
         not-above = not-below-of-≤ℚ (result .bounded i h .high);
       }
 
-  -- the exact value lies in the range of its row
-  row-range : (i : ℕ) → i < count → Within (low (f i)) (exactValue c x i) (high (f i))
-  row-range i h =
-      within-of-scaled
-      (le-cong orderedFractions (≈-refl _) (≈-sym (result .equal-there i h)) (low-holds-value orderedFractions (S count) (result .all-bounded) (f i) (shaped i h)))
-      (le-cong orderedFractions (≈-sym (result .equal-there i h)) (≈-refl _) (high-holds-value orderedFractions (S count) (result .all-bounded) (f i) (shaped i h)))
+  -- the exact value lies in the own range of its row
+  row-range : (i : ℕ) → i < count → Within (g i .low) (exactValue c x i) (g i .high)
+  row-range i h = let l = in-own c pass x within went (S count) (result .all-bounded) i (result .equal-there i h) in within-of-scaled (l .from) (l .to)
 
   -- equal rows have equal exact values
   row-values : (i j : ℕ) → i < count → j < count → f i ≡ f j → exactValue c x i ≈ exactValue c x j
   row-values i j h k e =
       ≈-of-scaled (≈-trans (result .equal-there i h) (≈-trans (path (ap (λ r. units ringOfFractions r (S count)) e)) (≈-sym (result .equal-there j k))))
 
-  -- ---- what the lent table holds
-  row-is-sound : (i : ℕ) → i < length rows → Sound (rowOf rows i)
-  row-is-sound i h =
-      let l : i < count = rw (length-grown (nextRow c) count) at h in
-      subst Sound (sym (row-of i l)) (row-sound c (rowsUpTo c i))
+  -- ---- what the lent tables hold
+  module _ (table ranges : List ℤ) (into : WorkedInto c count table (tableAfter rows table) ranges (rangesAfter (answeredRanges c rows) ranges)) where
+    abbrev left : List ℤ
+    left = tableAfter rows table
 
-  -- a table that still holds row i's numbers holds row i
-  held : (table lent : List ℤ) (i : ℕ) → i < count → StillHolds (tableAfter rows table) lent i → rowAt lent i ≡ f i
-  held table lent i h e = ap rowOfNumbers e ∙ rowAt-tableAfter rows table row-is-sound i (rw (length-grown (nextRow c) count) h) ∙ row-of i h
+    abbrev leftRanges : List ℤ
+    leftRanges = rangesAfter (answeredRanges c rows) ranges
 
-  -- the same, of a row by its number
-  held-row : (table lent : List ℤ) (i : ℕ) → i < count → StillHolds (tableAfter rows table) lent i → rowAt lent (suc i - 1) ≡ f i
-  held-row table lent i h e = let k : suc i - 1 ≡ i = omega arith in ap (rowAt lent) k ∙ held table lent i h e
+    -- tables that still hold row i's numbers hold row i, and its range
+    held-row : (lent : List ℤ) (i : ℕ) → i < count → StillHolds left lent i → rowAt lent (suc i - 1) ≡ f i
+    held-row lent i h e = let k : suc i - 1 ≡ i = omega arith in ap (rowAt lent) k ∙ ap rowOfNumbers e ∙ row-held into i h
 
-  -- ---- the answers of the calls
-  answered : (table : List ℤ) → rowWidth * count ≤ length table → (i : ℕ) → i < count → rangeOf (tableAfter rows table) count (suc i) .refusal ≡ accepted
-  answered table room i h =
-      let k : length rows ≡ count = length-grown (nextRow c) count in
-      let w : RowsWithin (tableAfter rows table) (length rows) = rowsWithin-tableAfter rows table row-is-sound (rw k room) in
-      ap (λ (r : RangeAnswer). r .refusal) (range-told-of (tableAfter rows table) count (rows-few c pass) (rw k at w) (suc i) (omega arith) h)
+    held-range : (lent : List ℤ) (i : ℕ) → i < count → RangeStillHolds leftRanges lent i → rangeAt lent (suc i - 1) ≡ g i
+    held-range lent i h e = let k : suc i - 1 ≡ i = omega arith in ap (rangeAt lent) k ∙ ap rangeOfNumbers e ∙ range-held into i h
 
-  in-range : (table : List ℤ) (i : ℕ) → i < count → (lent : List ℤ) → StillHolds (tableAfter rows table) lent i → (n : ℕ) → rangeOf lent n (suc i) .refusal ≡ accepted
-      → Within (rangeOf lent n (suc i) .low) (exactValue c x i) (rangeOf lent n (suc i) .high)
-  in-range table i h lent e n a =
-      let told : rangeOf lent n (suc i) ≡ rangeTold (f i) = range-told lent n (suc i) a ∙ ap rangeTold (held-row table lent i h e) in
-      subst (λ (r : RangeAnswer). Within (r .low) (exactValue c x i) (r .high)) (sym told) (row-range i h)
+    -- ---- the answers of the calls
+    in-range : (i : ℕ) → i < count → (lent lentRanges : List ℤ) → StillHolds left lent i → RangeStillHolds leftRanges lentRanges i
+        → (n : ℕ) → rangeOf lent lentRanges n (suc i) .refusal ≡ accepted
+        → Within (rangeOf lent lentRanges n (suc i) .low) (exactValue c x i) (rangeOf lent lentRanges n (suc i) .high)
+    in-range i h lent lentRanges e q n a =
+        let told : rangeOf lent lentRanges n (suc i) ≡ rangeTold (g i) = range-told lent lentRanges n (suc i) a ∙ ap rangeTold (held-range lentRanges i h q) in
+        subst (λ (r : RangeAnswer). Within (r .low) (exactValue c x i) (r .high)) (sym told) (row-range i h)
 
-  same-values : (table : List ℤ) (i j : ℕ) → i < count → j < count → (lent : List ℤ) → StillHolds (tableAfter rows table) lent i → StillHolds (tableAfter rows table) lent j
-      → (n : ℕ) → sameOf lent n (suc i) (suc j) .refusal ≡ accepted → sameOf lent n (suc i) (suc j) .same ≡ true → exactValue c x i ≈ exactValue c x j
-  same-values table i j h k lent p q n a y =
-      let told : sameOf lent n (suc i) (suc j) ≡ compared (f i) (f j) = same-told lent n (suc i) (suc j) a ∙ ap₂ compared (held-row table lent i h p) (held-row table lent j k q) in
-      row-values i j h k (same-is-equal (f i) (f j) (shaped i h) (shaped j k) (sym (ap (λ (r : SameAnswer). r .same) told) ∙ y))
+    same-values : (i j : ℕ) → i < count → j < count → (lent : List ℤ) → StillHolds left lent i → StillHolds left lent j
+        → (n : ℕ) → sameOf lent n (suc i) (suc j) .refusal ≡ accepted → sameOf lent n (suc i) (suc j) .same ≡ true → exactValue c x i ≈ exactValue c x j
+    same-values i j h k lent p q n a y =
+        let told : sameOf lent n (suc i) (suc j) ≡ compared (f i) (f j) = same-told lent n (suc i) (suc j) a ∙ ap₂ compared (held-row lent i h p) (held-row lent j k q) in
+        row-values i j h k (same-is-equal (f i) (f j) (shaped i h) (shaped j k) (sym (ap (λ (r : SameAnswer). r .same) told) ∙ y))
 
   divisor-nonzero : (j : ℕ) → j < natural (c .steps) → natural (stepAt c j .code) ≡ lastCode → ¬ (exactValue c x (natural (stepAt c j .first) - 1) ≈ whole (pos 0))
   divisor-nonzero j h e z =
       let d = divisor-of c pass x went j h e in
       let i = natural (stepAt c j .first) - 1 in
-      apart-nonzero (distance (f i)) (distance-is-end (low (f i)) (high (f i)) (d .1) .0)
-      (value-apart orderedFractions (S count) (result .all-bounded) (f i) (shaped i (d .0)) (d .1))
-      (≈-trans (≈-sym (result .equal-there i (d .0))) (≈-trans (scaled-cong z) (ring ringOfFractions 1 (λ u. u ⊗ con (pos 0) ≐ con (pos 0)) tt _)))
+      own-apart c pass x within went i (d .1) (in-own c pass x within went (S count) (result .all-bounded) i (result .equal-there i (d .0)))
+      (≈-trans (scaled-cong z) (ring ringOfFractions 1 (λ u. u ⊗ con (pos 0) ≐ con (pos 0)) tt _))
 
-  holds : (table : List ℤ) → rowWidth * count ≤ length table → Demand3 c rows (tableAfter rows table) x
-  holds table room =
-      record {
-        equal-exactly-at-found = iff;
-        found-in-unit = λ i h d. in-unit i h;
-        divisor-nonzero = divisor-nonzero;
-        range-answered = answered table room;
-        in-range = in-range table;
-        same-values = same-values table;
-      }
+  module _ (table ranges : List ℤ) (room : rowWidth * count ≤ length table) (room-ranges : rangeWidth * count ≤ length ranges)
+      (into : WorkedInto c count table (tableAfter rows table) ranges (rangesAfter (answeredRanges c rows) ranges)) where
+    answered : (i : ℕ) → i < count → rangeOf (tableAfter rows table) (rangesAfter (answeredRanges c rows) ranges) count (suc i) .refusal ≡ accepted
+    answered i h =
+        ap (λ (r : RangeAnswer). r .refusal)
+        (range-told-of (tableAfter rows table) count (rows-few c pass) (rows-within into room) _ (ranges-ordered into pass room-ranges) (suc i) (omega arith) h)
 
--- DEMAND 3: of every schedule and lent table whose evaluation is accepted, and all inputs within their ends.
+    holds : Demand3 c rows (tableAfter rows table) (rangesAfter (answeredRanges c rows) ranges) x
+    holds =
+        record {
+          equal-exactly-at-found = iff;
+          found-in-unit = λ i h d. in-unit i h;
+          divisor-nonzero = divisor-nonzero;
+          range-answered = answered;
+          in-range = in-range table ranges into;
+          same-values = same-values table ranges into;
+        }
+
+-- DEMAND 3: of every schedule and lent tables whose evaluation is accepted, and all inputs within their ends.
 pub demand-3 : Demand-3
-demand-3 c table e x within =
-    let a = accepted-evaluation c table (ap (λ r. r .number) e) in
-    subst (λ rows. Demand3 c rows (tableAfter rows table) x) (sym (a .rows)) (holds c (a .pass) x within (a .goes) table (a .room))
+demand-3 c table ranges e x within =
+    let n = ap (λ r. r .number) e in
+    let a = accepted-evaluation c table ranges n in
+    let into = subst (λ rows. WorkedInto c (rowCount c) table (tableAfter rows table) ranges (rangesAfter (answeredRanges c rows) ranges)) (a .rows) (worked-left c table ranges n) in
+    subst (λ rows. Demand3 c rows (tableAfter rows table) (rangesAfter (answeredRanges c rows) ranges) x) (sym (a .rows))
+    (holds c (a .pass) x within (a .goes) table ranges (a .room) (a .room-ranges) into)

@@ -5,12 +5,14 @@ use mathlib.Core.List.{List, [], _∷_, _++_, map}
 use Prim.Native.Nat.{ℕ, _-_, _*_}
 use lib.IntN.{ℤ, pos, negℤ}
 use lib.Dec.{eqb}
-use lib.ListN.{length, replicate}
+use lib.ListN.{length, getD, replicate}
 use Rattle.integer.specs.Floor.{floorQuotient, floorRemainder}
 use Rattle.affine.specs.declared.Row.{Row}
+use Rattle.affine.specs.declared.Range.{Range}
 use Rattle.affine.specs.Lists.{pick, at, tabulate, sum}
 use Rattle.affine.specs.PairOrder.{overPairs, firsts, seconds}
 use Rattle.affine.specs.Row.{span, low, high, pairBelow, pairAbove, pairsBelow, pairsAbove}
+use Rattle.affine.specs.Steps.{endsRange}
 use Rattle.affine.specs.Product.{linearTotals, pairTotals, radius, squaredRadius, dropped, productOwn, productRow}
 use Rattle.affine.specs.Reciprocal.{candidateLinear, candidatePair, errorBound, reciprocalOwn, reciprocalRow}
 use Rattle.sheet.specs.declared.Schedule.{Schedule}
@@ -20,9 +22,9 @@ use Rattle.sheet.specs.Lines.{zeroEnd, zeroStep, lineOf, numbers}
 use Rattle.sheet.specs.Tests.{countsPass, endsPass, stepPasses, fault}
 use Rattle.sheet.specs.Limits.{maxInputs, maxSteps}
 use Rattle.sheet.specs.Writing.{faultAt, testLines, testOf}
-use Rattle.evaluation.specs.Table.{rowWidth}
-use Rattle.evaluation.specs.Work.{Worked, rowCount, binaryAnswer, stepAnswer, rowAnswer, withAnswer, worked, evaluated}
-use Rattle.evaluation.specs.Values.{rowOf, ownOf}
+use Rattle.evaluation.specs.Table.{rowWidth, rangeWidth}
+use Rattle.evaluation.specs.Work.{Worked, rowCount, rowOf, ownRanges, answeredRanges, binaryAnswer, stepAnswer, rowAnswer, withAnswer, worked, evaluated}
+use Rattle.evaluation.specs.Values.{ownOf}
 
 abbrev minus : ℕ → ℤ
 minus n = negℤ (pos n)
@@ -46,18 +48,21 @@ schedule squares e steps =
     }
 
 -- ---- what is shown of a case: number and place, and of the row with index i its centre, its coefficients of symbol 1, of pair (1,1) and its own,
--- low and high
+-- and the answered low and high
 evaluation : Schedule → Worked
-evaluation c = evaluated c (replicate (rowWidth * rowCount c) (pos 0))
+evaluation c = evaluated c (replicate (rowWidth * rowCount c) (pos 0)) (replicate (rangeWidth * rowCount c) (pos 0))
 
-rowShown : List Row → ℕ → List ℤ
-rowShown rows i =
-    rowOf rows i .centre ∷ at (rowOf rows i .linear) 0 ∷ at (rowOf rows i .pair) 0 ∷ ownOf rows i ∷ low (rowOf rows i) ∷ high (rowOf rows i) ∷ []
+rangeShown : Range → List ℤ
+rangeShown r = r .low ∷ r .high ∷ []
+
+rowShown : Schedule → List Row → ℕ → List ℤ
+rowShown c rows i =
+    rowOf rows i .centre ∷ at (rowOf rows i .linear) 0 ∷ at (rowOf rows i .pair) 0 ∷ ownOf rows i ∷ rangeShown (getD (answeredRanges c rows) i (endsRange (pos 0) (pos 0)))
 
 shown : Schedule → ℕ → List ℤ
 shown c i =
     pos (evaluation c .refusal .number) ∷ pos (evaluation c .refusal .place)
-    ∷ pick (eqb (evaluation c .refusal .number) 0) (rowShown (evaluation c .rows) i) []
+    ∷ pick (eqb (evaluation c .refusal .number) 0) (rowShown c (evaluation c .rows) i) []
 
 record Case : Type 0 where
   of : Schedule
@@ -92,8 +97,8 @@ wide = ended (pos 4096) (pos 8192)
 
 cases : List Case
 cases =
-    case (alone (ended (pos 0) (pos 1))) 0 (pos 0 ∷ pos 0 ∷ pos 0 ∷ pos 1 ∷ pos 0 ∷ pos 1 ∷ minus 1 ∷ pos 1 ∷ [])
-    ∷ case (alone (ended (minus 1) (pos 0))) 0 (pos 0 ∷ pos 0 ∷ minus 1 ∷ pos 1 ∷ pos 0 ∷ pos 1 ∷ minus 2 ∷ pos 0 ∷ [])
+    case (alone (ended (pos 0) (pos 1))) 0 (pos 0 ∷ pos 0 ∷ pos 0 ∷ pos 1 ∷ pos 0 ∷ pos 1 ∷ pos 0 ∷ pos 1 ∷ [])
+    ∷ case (alone (ended (minus 1) (pos 0))) 0 (pos 0 ∷ pos 0 ∷ minus 1 ∷ pos 1 ∷ pos 0 ∷ pos 1 ∷ minus 1 ∷ pos 0 ∷ [])
     ∷ case (productOf (pos 1) (pos 1)) 3 (pos 0 ∷ pos 0 ∷ pos 0 ∷ pos 0 ∷ pos 0 ∷ pos 1 ∷ minus 1 ∷ pos 1 ∷ [])
     ∷ case (productOf (minus 1) (pos 1)) 3 (pos 0 ∷ pos 0 ∷ minus 1 ∷ pos 0 ∷ pos 0 ∷ pos 1 ∷ minus 2 ∷ pos 0 ∷ [])
     ∷ case (reciprocalOf (pos 8192)) 2 (pos 0 ∷ pos 0 ∷ pos 2048 ∷ pos 0 ∷ pos 0 ∷ pos 0 ∷ pos 2048 ∷ pos 2048 ∷ [])
@@ -103,12 +108,12 @@ cases =
     ∷ case (square 0 wide) 1 (pos 0 ∷ pos 0 ∷ pos 9216 ∷ pos 6144 ∷ pos 0 ∷ pos 1024 ∷ pos 2048 ∷ pos 16384 ∷ [])
     ∷ case (inverse 1 wide) 1 (pos 0 ∷ pos 0 ∷ pos 2730 ∷ minus 911 ∷ pos 303 ∷ pos 155 ∷ pos 1664 ∷ pos 4099 ∷ [])
     ∷ case (inverse 0 wide) 1 (pos 0 ∷ pos 0 ∷ pos 2730 ∷ minus 911 ∷ pos 0 ∷ pos 458 ∷ pos 1361 ∷ pos 4099 ∷ [])
-    ∷ case (inverse 0 (ended (pos 1) (pos 2))) 1 (pos 7 ∷ pos 2 ∷ [])
+    ∷ case (inverse 0 (ended (pos 1) (pos 2))) 1 (pos 0 ∷ pos 0 ∷ pos 16777216 ∷ minus 16777216 ∷ pos 0 ∷ pos 16777216 ∷ minus 16777216 ∷ pos 50331648 ∷ [])
     ∷ case (inverse 0 (ended (pos 1) (pos 3))) 1 (pos 0 ∷ pos 0 ∷ pos 8388608 ∷ minus 4194304 ∷ pos 0 ∷ pos 4194304 ∷ pos 0 ∷ pos 16777216 ∷ [])
     ∷ case (productOf (pos 268435456) (pos 16384)) 3 (pos 0 ∷ pos 0 ∷ pos 1073741824 ∷ pos 0 ∷ pos 0 ∷ pos 0 ∷ pos 1073741824 ∷ pos 1073741824 ∷ [])
     ∷ case (productOf (pos 268435456) (pos 16385)) 3 (pos 6 ∷ pos 4 ∷ [])
     ∷ []
 
 examples-hold : map (λ k. shown (k .of) (k .row)) cases ≡ map (λ k. k .is) cases
-unfolding cases case still reciprocalOf productOf alone square inverse wide ended step schedule evaluation rowShown shown evaluated worked withAnswer rowAnswer stepAnswer binaryAnswer testOf testLines faultAt lineOf numbers fault countsPass endsPass stepPasses floorQuotient floorRemainder low high tabulate overPairs firsts seconds pairBelow pairAbove pairsBelow pairsAbove sum span linearTotals pairTotals radius squaredRadius dropped productOwn productRow candidateLinear candidatePair errorBound reciprocalOwn reciprocalRow
+unfolding cases case still reciprocalOf productOf alone square inverse wide ended step schedule evaluation rangeShown rowShown shown evaluated worked withAnswer ownRanges rowAnswer stepAnswer binaryAnswer testOf testLines faultAt lineOf numbers fault countsPass endsPass stepPasses floorQuotient floorRemainder low high tabulate overPairs firsts seconds pairBelow pairAbove pairsBelow pairsAbove sum span linearTotals pairTotals radius squaredRadius dropped productOwn productRow candidateLinear candidatePair errorBound reciprocalOwn reciprocalRow
 examples-hold = refl

@@ -2,6 +2,9 @@ pub mod Sequence
 pub mod Induction
 pub mod WorkLaws
 pub mod ExactRows
+pub mod RowLines
+pub mod SoundRows
+pub mod OwnRanges
 pub mod Made
 pub mod RowFacts
 pub mod PartLaws
@@ -11,7 +14,6 @@ pub mod TableLaws
 pub mod Pasted
 pub mod FieldBits
 pub mod StepAnswers
-pub mod SoundRows
 pub mod WorkedTable
 pub mod EvaluationEnds
 pub mod AcceptedEvaluation

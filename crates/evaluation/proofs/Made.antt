@@ -2,16 +2,16 @@
 use mathlib.Core.Path.{_≡_, refl, sym, ap, ap₂, _∙_, subst}
 use mathlib.Core.Logic.{_⊎_, inl, inr}
 use mathlib.Core.Bool.{false}
-use mathlib.Core.List.{List, [], _∷_, _++_}
+use mathlib.Core.List.{List}
 use Prim.Native.Nat.{ℕ, zero, suc, _+_, _-_, _≤_, _<_}
 use native.Mathlib.Omega.{arith}
-use borrow.Author.Tests.{lt-ltb, le-ltb}
 use lib.IntN.{ℤ, pos}
-use lib.ListN.{length, getD}
-use Rattle.integer.specs.Fraction.{Fraction, _+ℚ_, _-ℚ_, _*ℚ_, whole, reciprocal as reciprocalOf}
+use lib.ListN.{length}
+use Rattle.integer.specs.Fraction.{Fraction, _+ℚ_, _-ℚ_, _*ℚ_, reciprocal as reciprocalOf}
 use Rattle.affine.specs.declared.Row.{Row}
+use Rattle.affine.specs.declared.Range.{Range}
 use Rattle.affine.specs.declared.Status.the-variants.{Accepted}
-use Rattle.affine.specs.Limits.{symbols, paired}
+use Rattle.affine.specs.Row.{formRange}
 use Rattle.affine.specs.Steps.{constantRow, inputRow, addRows, subtractRows, checked}
 use Rattle.affine.specs.Product.{product, productRow}
 use Rattle.affine.specs.Reciprocal.{reciprocal, reciprocalRow, zeroInRange, distance}
@@ -21,37 +21,14 @@ use Rattle.sheet.specs.Lines.{natural, endsAt, stepAt}
 use Rattle.sheet.specs.Limits.{lastBinary, lastCode}
 use Rattle.sheet.proofs.Passing.{Natural, StepPassed}
 use Rattle.sheet.proofs.Passed.{Passed}
-use Rattle.evaluation.specs.Work.{rowCount, namedRow, binaryAnswer, stepAnswer, rowAnswer}
-use Rattle.evaluation.specs.Values.{inUnits, namedValue, exactStep, exactRow, exactValues, exactValue}
-use Rattle.evaluation.proofs.Sequence.{grown, length-grown, getD-grown}
+use Rattle.evaluation.specs.Work.{rowCount, ownRange, ownRanges, namedRow, namedRange, binaryAnswer, stepAnswer, rowAnswer}
+use Rattle.evaluation.specs.Values.{inUnits, namedValue, exactStep, exactValues, exactValue}
+use Rattle.evaluation.proofs.Sequence.{length-grown, getD-grown}
 use Rattle.evaluation.proofs.ExactRows.{named-value, input-value, step-value}
 use Rattle.evaluation.proofs.Induction.{lt-or-ge}
+use Rattle.evaluation.proofs.RowLines.{rowAnswer-input, rowAnswer-step, step-of-row}
+use Rattle.evaluation.proofs.OwnRanges.{noRange, own-at}
 use Rattle.evaluation.proofs.WorkLaws.{nextRow, rowsUpTo, Went, checked-accepted, Inverted, reciprocal-accepted}
-
--- ---- the line of a row
-pub rowAnswer-input : (c : Schedule) (rows : List Row) (n : ℕ) → length rows ≡ n → n < natural (c .inputs) → rowAnswer c rows ≡ checked (inputRow n (endsAt c n .low) (endsAt c n .high))
-unfolding rowAnswer
-rowAnswer-input c rows n e h = rw (e, lt-ltb n (natural (c .inputs)) h)
-
-pub rowAnswer-step : (c : Schedule) (rows : List Row) (n : ℕ) → length rows ≡ n → natural (c .inputs) ≤ n
-    → rowAnswer c rows ≡ stepAnswer (natural (c .squares)) rows (stepAt c (n - natural (c .inputs)))
-unfolding rowAnswer
-rowAnswer-step c rows n e h = rw (e, le-ltb n (natural (c .inputs)) h)
-
--- a schedule that passed has a symbol for each row, and a place for each square
-pub rows-few : (c : Schedule) → Passed c → rowCount c ≤ symbols
-rows-few c passed = omega (arith, passed .counts .inputs-in .to, passed .counts .steps-in .to)
-
-pub squares-few : (c : Schedule) → Passed c → natural (c .squares) ≤ paired
-squares-few c passed = omega (arith, passed .counts .inputs-in .to, passed .counts .squares-in .to)
-
--- the step of a row passed 5, as the row's place asks
-pub step-of-row : (c : Schedule) → Passed c → (n : ℕ) → n < rowCount c → natural (c .inputs) ≤ n
-    → let t = stepAt c (n - natural (c .inputs)) in StepPassed n (t .code) (t .first) (t .second) (t .value)
-step-of-row c passed n h l =
-    let t = stepAt c (n - natural (c .inputs)) in
-    let m : natural (c .inputs) + (n - natural (c .inputs)) ≡ n = omega arith in
-    subst (λ k. StepPassed k (t .code) (t .first) (t .second) (t .value)) m (passed .steps (n - natural (c .inputs)) (omega arith))
 
 -- ---- the code of a step
 data Code : ℕ → Type 0 where
@@ -71,9 +48,12 @@ code-of (suc (suc (suc (suc (suc zero))))) l h = is-5
 code-of (suc (suc (suc (suc (suc (suc k)))))) l h = absurd (omega arith)
 
 module _ (c : Schedule) (passed : Passed c) (x : ℕ → Fraction) where
-  -- the row with index n, and its exact value
+  -- the row with index n, its own range and its exact value
   abbrev pub row : ℕ → Row
   row n = nextRow c (rowsUpTo c n)
+
+  abbrev pub range : ℕ → Range
+  range n = ownRange c n (row n)
 
   abbrev pub value : ℕ → Fraction
   value n = exactValue c x n
@@ -87,20 +67,25 @@ module _ (c : Schedule) (passed : Passed c) (x : ℕ → Fraction) where
     is-sum : natural (c .inputs) ≤ n → (i j : ℕ) → i < n → j < n → row n ≡ addRows (row i) (row j) → value n ≡ value i +ℚ value j → Made n
     is-difference : natural (c .inputs) ≤ n → (i j : ℕ) → i < n → j < n → row n ≡ subtractRows (row i) (row j) → value n ≡ value i -ℚ value j → Made n
     is-product : natural (c .inputs) ≤ n → (i j : ℕ) → i < n → j < n → row n ≡ productRow squares n (row i) (row j) → value n ≡ value i *ℚ value j → Made n
-    is-reciprocal : natural (c .inputs) ≤ n → (i : ℕ) → i < n → zeroInRange (row i) ≡ false → row n ≡ reciprocalRow squares n (row i) (distance (row i))
+    is-reciprocal : natural (c .inputs) ≤ n → (i : ℕ) → i < n → zeroInRange (range i) ≡ false → row n ≡ reciprocalRow squares n (row i) (distance (range i))
         → value n ≡ reciprocalOf (value i) → Made n
 
   -- a row that is named is the row of that number
   named-row : (n : ℕ) (z : ℤ) → Natural 1 n z → namedRow (rowsUpTo c n) z ≡ row (natural z - 1)
   named-row n z h = getD-grown (nextRow c) n (constantRow (pos 0)) (natural z - 1) (omega (arith, h .from, h .to))
 
+  named-range : (n : ℕ) (z : ℤ) → Natural 1 n z → namedRange (ownRanges c (rowsUpTo c n)) z ≡ range (natural z - 1)
+  named-range n z h =
+      own-at c (rowsUpTo c n) noRange (natural z - 1) (omega (arith, h .from, h .to, length-grown (nextRow c) n))
+      ∙ ap (ownRange c (natural z - 1)) (named-row n z h)
+
   named-before : (n : ℕ) (z : ℤ) → Natural 1 n z → natural z - 1 < n
   named-before n z h = omega (arith, h .from, h .to)
 
   -- a step's row, by its code
   module _ (n : ℕ) (late : natural (c .inputs) ≤ n) (t : Step) (step : StepPassed n (t .code) (t .first) (t .second) (t .value))
-      (status : stepAnswer squares (rowsUpTo c n) t .status ≡ Accepted)
-      (row-is : row n ≡ stepAnswer squares (rowsUpTo c n) t .row) (value-is : value n ≡ exactStep (exactValues c x n) t) where
+      (status : stepAnswer squares (rowsUpTo c n) (ownRanges c (rowsUpTo c n)) t .status ≡ Accepted)
+      (row-is : row n ≡ stepAnswer squares (rowsUpTo c n) (ownRanges c (rowsUpTo c n)) t .row) (value-is : value n ≡ exactStep (exactValues c x n) t) where
     first-named : 2 ≤ natural (t .code) → Natural 1 n (t .first)
     first-named h = step .first-row h
 
@@ -114,47 +99,49 @@ module _ (c : Schedule) (passed : Passed c) (x : ℕ → Fraction) where
     values = exactValues c x n
 
     -- a reciprocal that was accepted
-    reciprocal-made : natural (t .code) ≡ lastCode → stepAnswer squares rows t ≡ reciprocal squares (length rows) (namedRow rows (t .first))
+    reciprocal-made : natural (t .code) ≡ lastCode → stepAnswer squares rows (ownRanges c rows) t ≡ reciprocal squares (length rows) (namedRow rows (t .first)) (namedRange (ownRanges c rows) (t .first))
     unfolding stepAnswer
     reciprocal-made e = rw e
 
-    inverted : natural (t .code) ≡ lastCode → Inverted squares (length rows) (namedRow rows (t .first))
+    inverted : natural (t .code) ≡ lastCode → Inverted squares (length rows) (namedRow rows (t .first)) (namedRange (ownRanges c rows) (t .first))
     unfolding rows
-    inverted e = reciprocal-accepted squares (length (rowsUpTo c n)) (namedRow (rowsUpTo c n) (t .first)) (rw (reciprocal-made e) at status)
+    inverted e =
+        reciprocal-accepted squares (length (rowsUpTo c n)) (namedRow (rowsUpTo c n) (t .first)) (namedRange (ownRanges c (rowsUpTo c n)) (t .first))
+        (rw (reciprocal-made e) at status)
 
-    divisor-apart : natural (t .code) ≡ lastCode → zeroInRange (row (natural (t .first) - 1)) ≡ false
+    divisor-apart : natural (t .code) ≡ lastCode → zeroInRange (range (natural (t .first) - 1)) ≡ false
     unfolding rows
-    divisor-apart e = ap zeroInRange (sym (named-row n (t .first) (first-named (omega (arith, e))))) ∙ inverted e .apart
+    divisor-apart e = ap zeroInRange (sym (named-range n (t .first) (first-named (omega (arith, e))))) ∙ inverted e .apart
 
     by-code : (k : ℕ) → natural (t .code) ≡ k → Code k → Made n
     unfolding stepAnswer binaryAnswer exactStep rows values
     by-code k e is-1 =
         is-constant late (t .value)
-        (row-is ∙ (rw e (checked-accepted (constantRow (t .value)) (rw e at status))))
+        (row-is ∙ rw e (ap (λ a. a .row) (checked-accepted (constantRow (t .value)) (formRange (constantRow (t .value))) (rw e at status))))
         (value-is ∙ rw e)
     by-code k e is-2 =
         let p = first-named (omega (arith, e)) in
         let q = second-named (omega (arith, e)) (omega (arith, e)) in
-        let made : stepAnswer squares rows t ≡ checked (addRows (namedRow rows (t .first)) (namedRow rows (t .second))) = rw e in
+        let made : stepAnswer squares rows (ownRanges c rows) t ≡ checked (addRows (namedRow rows (t .first)) (namedRow rows (t .second))) = rw e in
         let exact : exactStep values t ≡ namedValue values (t .first) +ℚ namedValue values (t .second) = rw e in
         is-sum late (natural (t .first) - 1) (natural (t .second) - 1) (named-before n (t .first) p) (named-before n (t .second) q)
-        (row-is ∙ ap (λ a. a .row) made ∙ checked-accepted _ (rw made at status) ∙ ap₂ addRows (named-row n (t .first) p) (named-row n (t .second) q))
+        (row-is ∙ ap (λ a. a .row) (made ∙ checked-accepted _ _ (rw made at status)) ∙ ap₂ addRows (named-row n (t .first) p) (named-row n (t .second) q))
         (value-is ∙ exact ∙ ap₂ (λ a b. a +ℚ b) (named-value c x n (t .first) p) (named-value c x n (t .second) q))
     by-code k e is-3 =
         let p = first-named (omega (arith, e)) in
         let q = second-named (omega (arith, e)) (omega (arith, e)) in
-        let made : stepAnswer squares rows t ≡ checked (subtractRows (namedRow rows (t .first)) (namedRow rows (t .second))) = rw e in
+        let made : stepAnswer squares rows (ownRanges c rows) t ≡ checked (subtractRows (namedRow rows (t .first)) (namedRow rows (t .second))) = rw e in
         let exact : exactStep values t ≡ namedValue values (t .first) -ℚ namedValue values (t .second) = rw e in
         is-difference late (natural (t .first) - 1) (natural (t .second) - 1) (named-before n (t .first) p) (named-before n (t .second) q)
-        (row-is ∙ ap (λ a. a .row) made ∙ checked-accepted _ (rw made at status) ∙ ap₂ subtractRows (named-row n (t .first) p) (named-row n (t .second) q))
+        (row-is ∙ ap (λ a. a .row) (made ∙ checked-accepted _ _ (rw made at status)) ∙ ap₂ subtractRows (named-row n (t .first) p) (named-row n (t .second) q))
         (value-is ∙ exact ∙ ap₂ (λ a b. a -ℚ b) (named-value c x n (t .first) p) (named-value c x n (t .second) q))
     by-code k e is-4 =
         let p = first-named (omega (arith, e)) in
         let q = second-named (omega (arith, e)) (omega (arith, e)) in
-        let made : stepAnswer squares rows t ≡ product squares (length rows) (namedRow rows (t .first)) (namedRow rows (t .second)) = rw e in
+        let made : stepAnswer squares rows (ownRanges c rows) t ≡ product squares (length rows) (namedRow rows (t .first)) (namedRow rows (t .second)) = rw e in
         let exact : exactStep values t ≡ namedValue values (t .first) *ℚ namedValue values (t .second) = rw e in
         is-product late (natural (t .first) - 1) (natural (t .second) - 1) (named-before n (t .first) p) (named-before n (t .second) q)
-        (row-is ∙ ap (λ a. a .row) made ∙ checked-accepted _ (rw made at status)
+        (row-is ∙ ap (λ a. a .row) (made ∙ checked-accepted _ _ (rw made at status))
         ∙ ap (λ m. productRow squares m (namedRow rows (t .first)) (namedRow rows (t .second))) (length-grown (nextRow c) n)
         ∙ ap₂ (productRow squares n) (named-row n (t .first) p) (named-row n (t .second) q))
         (value-is ∙ exact ∙ ap₂ (λ a b. a *ℚ b) (named-value c x n (t .first) p) (named-value c x n (t .second) q))
@@ -164,8 +151,8 @@ module _ (c : Schedule) (passed : Passed c) (x : ℕ → Fraction) where
         let w = inverted e in
         is-reciprocal late (natural (t .first) - 1) (named-before n (t .first) p) (divisor-apart e)
         (row-is ∙ ap (λ a. a .row) (reciprocal-made e) ∙ w .row
-        ∙ ap (λ m. reciprocalRow squares m (namedRow rows (t .first)) (distance (namedRow rows (t .first)))) (length-grown (nextRow c) n)
-        ∙ ap (λ r. reciprocalRow squares n r (distance r)) (named-row n (t .first) p))
+        ∙ ap (λ m. reciprocalRow squares m (namedRow rows (t .first)) (distance (namedRange (ownRanges c rows) (t .first)))) (length-grown (nextRow c) n)
+        ∙ ap₂ (λ r a. reciprocalRow squares n r (distance a)) (named-row n (t .first) p) (named-range n (t .first) p))
         (value-is ∙ exact ∙ ap reciprocalOf (named-value c x n (t .first) p))
 
   -- the line of a row, and what is known of a step's
@@ -177,13 +164,13 @@ module _ (c : Schedule) (passed : Passed c) (x : ℕ → Fraction) where
       abbrev t : Step
       t = stepAt c (n - natural (c .inputs))
 
-      answer : rowAnswer c (rowsUpTo c n) ≡ stepAnswer squares (rowsUpTo c n) t
+      answer : rowAnswer c (rowsUpTo c n) ≡ stepAnswer squares (rowsUpTo c n) (ownRanges c (rowsUpTo c n)) t
       answer = rowAnswer-step c (rowsUpTo c n) n long l
 
       step-passed : StepPassed n (t .code) (t .first) (t .second) (t .value)
       step-passed = step-of-row c passed n h l
 
-      status : stepAnswer squares (rowsUpTo c n) t .status ≡ Accepted
+      status : stepAnswer squares (rowsUpTo c n) (ownRanges c (rowsUpTo c n)) t .status ≡ Accepted
       status = rw answer at (went .each n h)
 
       made-by-step : Made n
@@ -191,7 +178,7 @@ module _ (c : Schedule) (passed : Passed c) (x : ℕ → Fraction) where
           by-code n l t step-passed status (ap (λ a. a .row) answer) (step-value c x n l)
           (natural (t .code)) refl (code-of (natural (t .code)) (step-passed .code-in .from) (step-passed .code-in .to))
 
-      divided : natural (t .code) ≡ lastCode → (natural (t .first) - 1 < n) × (zeroInRange (row (natural (t .first) - 1)) ≡ false)
+      divided : natural (t .code) ≡ lastCode → (natural (t .first) - 1 < n) × (zeroInRange (range (natural (t .first) - 1)) ≡ false)
       divided e = (
         named-before n (t .first) (step-passed .first-row (omega (arith, e))),
         divisor-apart n l t step-passed status (ap (λ a. a .row) answer) (step-value c x n l) e,
@@ -203,14 +190,14 @@ module _ (c : Schedule) (passed : Passed c) (x : ℕ → Fraction) where
         by-line : (n < natural (c .inputs)) ⊎ (natural (c .inputs) ≤ n) → Made n
         by-line (inl l) =
             let e = rowAnswer-input c (rowsUpTo c n) n long l in
-            is-input l (ap (λ a. a .row) e ∙ checked-accepted _ (rw e at (went .each n h))) (input-value c x n l)
+            is-input l (ap (λ a. a .row) (e ∙ checked-accepted _ _ (rw e at (went .each n h)))) (input-value c x n l)
         by-line (inr l) = made-by-step l
 
-  -- "An exact divisor is the exact value of the row that a reciprocal names": an earlier row, whose range does not hold 0
+  -- "An exact divisor is the exact value of the row that a reciprocal names": an earlier row, whose own range does not hold 0
   pub divisor-of : Went c (rowCount c) → (j : ℕ) → j < natural (c .steps) → natural (stepAt c j .code) ≡ lastCode
-      → (natural (stepAt c j .first) - 1 < rowCount c) × (zeroInRange (row (natural (stepAt c j .first) - 1)) ≡ false)
+      → (natural (stepAt c j .first) - 1 < rowCount c) × (zeroInRange (range (natural (stepAt c j .first) - 1)) ≡ false)
   divisor-of went j h e =
       let n = natural (c .inputs) + j in
       let m : n - natural (c .inputs) ≡ j = omega arith in
       let d = divided went n (omega arith) (omega arith) (ap (λ k. natural (stepAt c k .code)) m ∙ e) in
-      (subst (λ k. natural (stepAt c k .first) - 1 < rowCount c) m (omega (arith, d .0)), subst (λ k. zeroInRange (row (natural (stepAt c k .first) - 1)) ≡ false) m (d .1))
+      (subst (λ k. natural (stepAt c k .first) - 1 < rowCount c) m (omega (arith, d .0)), subst (λ k. zeroInRange (range (natural (stepAt c k .first) - 1)) ≡ false) m (d .1))

@@ -1,9 +1,9 @@
 -- The numbers of a refusal by evaluation are small: the cause, and a row that the schedule has or a line of its sheet.
 use mathlib.Core.List.{List, [], _∷_}
-use Prim.Native.Nat.{ℕ, zero, suc, _*_, _≤_}
+use Prim.Native.Nat.{ℕ, zero, suc, _≤_}
 use native.Mathlib.Omega.{arith}
 use borrow.Author.Tests.{eqb-true}
-use lib.Dec.{eqb, leb}
+use lib.Dec.{eqb}
 use lib.IntN.{ℤ}
 use lib.ListN.{length, length-append}
 use Rattle.affine.specs.declared.Row.{Row}
@@ -16,9 +16,8 @@ use Rattle.sheet.specs.declared.Schedule.{Schedule}
 use Rattle.sheet.specs.Writing.{testOf}
 use Rattle.sheet.proofs.Passed.{passed}
 use Rattle.sheet.proofs.RefusalSize.{Small, lastPlace, test-small}
-use Rattle.evaluation.specs.Table.{rowWidth}
-use Rattle.evaluation.specs.Work.{Worked, rowCount, rowAnswer, withAnswer, worked, evaluated}
-use Rattle.evaluation.proofs.Made.{rows-few}
+use Rattle.evaluation.specs.Work.{Worked, rowCount, rowAnswer, withAnswer, worked, tablesHold, evaluated}
+use Rattle.evaluation.proofs.RowLines.{rows-few}
 
 status-small : (s : Status) → number s ≤ 8
 status-small Accepted = omega arith
@@ -46,12 +45,12 @@ worked-small c (suc n) =
     (λ e. answer-small n (worked c n .rows) (rowAnswer c (worked c n .rows)) (w .rows-small))
     (λ e. record { rows-small = omega (arith, w .rows-small); refusal-small = record { number-small = w .refusal-small .number-small; place-small = omega (arith, w .refusal-small .place-small) } })
 
-pub evaluated-small : (c : Schedule) (table : List ℤ) → Small lastPlace (evaluated c table .refusal)
+pub evaluated-small : (c : Schedule) (table ranges : List ℤ) → Small lastPlace (evaluated c table ranges .refusal)
 unfolding evaluated
-evaluated-small c table =
+evaluated-small c table ranges =
     let small : Worked → Type 0 = λ w. Small lastPlace (w .refusal) in
     pick-elim small (eqb (testOf c .number) 0) _ _
-    (λ e. pick-elim small (leb (rowWidth * rowCount c) (length table)) _ _
+    (λ e. pick-elim small (tablesHold (rowCount c) table ranges) _ _
     (λ l.
     let w = worked-small c (rowCount c) .refusal-small in
     record { number-small = w .number-small; place-small = omega (arith, w .place-small, rows-few c (passed c (eqb-true _ _ e))) })

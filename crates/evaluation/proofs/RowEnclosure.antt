@@ -1,8 +1,9 @@
 -- Each row of accepted work encloses its exact value: by its line, the enclosure law of its operation.
 use mathlib.Core.Path.{_≡_, sym, subst}
-use mathlib.Core.Logic.{_≢_}
+use mathlib.Core.Logic.{_≢_, _⊎_, inl, inr}
+use mathlib.Core.Bool.{false}
 use mathlib.Core.List.{[], _∷_}
-use Prim.Native.Nat.{ℕ, _<_}
+use Prim.Native.Nat.{ℕ, _≤_, _<_}
 use native.Mathlib.Omega.{arith}
 use lib.IntN.{pos, negsuc}
 use Rattle.integer.specs.Fraction.{Fraction, _≈_, _≤ℚ_, _-ℚ_, _*ℚ_, negℚ, whole, reciprocal}
@@ -12,24 +13,30 @@ use Rattle.integer.proofs.Order.{pos-≤ℤ}
 use Rattle.integer.proofs.Fraction.{ringOfFractions, orderedFractions, ≈-refl, ≈-sym, ≈-trans, +ℚ-cong, *ℚ-cong, ≤ℚ-of-not-below, times-reciprocal, ≈-zero-of-upper}
 use Rattle.integer.proofs.Bound.{Bound, le-cong, whole-le, whole-nonneg}
 use Rattle.affine.specs.declared.Row.{Row}
+use Rattle.affine.specs.declared.Range.{Range}
 use Rattle.affine.specs.Limits.{symbols, unit, unitSquared}
 use Rattle.affine.specs.Lists.{at}
 use Rattle.affine.specs.Steps.{inputRow}
 use Rattle.affine.specs.Product.{productRow}
-use Rattle.affine.specs.Reciprocal.{distance, reciprocalRow}
+use Rattle.affine.specs.Reciprocal.{zeroInRange, distance, reciprocalRow}
 use Rattle.affine.proofs.Form.{Shaped, UsesOnly, units}
 use Rattle.affine.proofs.FormBounds.{Unit-symbols}
 use Rattle.affine.proofs.StepLaws.{constant-exact, add-exact, subtract-exact, input-encloses}
-use Rattle.affine.proofs.Enclosure.{product-encloses, reciprocal-encloses, Apart, apart-square, value-apart, distance-is-end}
+use Rattle.affine.proofs.Distance.{distance-is-end}
+use Rattle.affine.proofs.RangeLaws.{low-holds-value, high-holds-value}
+use Rattle.affine.proofs.Enclosure.{product-encloses, reciprocal-encloses, Apart, apart-square, value-apart}
 use Rattle.affine.proofs.WellFormed.{input-own, product-own, reciprocal-own}
-use Rattle.affine.specs.Row.{low, high}
 use Rattle.sheet.specs.declared.Schedule.{Schedule}
 use Rattle.sheet.specs.Lines.{natural, endsAt}
 use Rattle.sheet.proofs.Passed.{Passed}
 use Rattle.evaluation.specs.Work.{rowCount}
 use Rattle.evaluation.specs.Demand3.{InputsWithin}
+use Rattle.evaluation.proofs.Induction.{lt-or-ge}
+use Rattle.evaluation.proofs.ExactRows.{input-value}
+use Rattle.evaluation.proofs.OwnRanges.{own-of-input, own-of-step}
 use Rattle.evaluation.proofs.WorkLaws.{rowsUpTo, Went}
-use Rattle.evaluation.proofs.Made.{Made, is-input, is-constant, is-sum, is-difference, is-product, is-reciprocal, row, value, made, rows-few, squares-few}
+use Rattle.evaluation.proofs.Made.{Made, is-input, is-constant, is-sum, is-difference, is-product, is-reciprocal, row, range, value, made}
+use Rattle.evaluation.proofs.RowLines.{rows-few, squares-few}
 use Rattle.evaluation.proofs.RowFacts.{fact, own, own-is}
 use Rattle.evaluation.proofs.SoundRows.{row-sound}
 use Rattle.evaluation.proofs.FractionUnits.{scaled, scaled-inUnits, scaled-above, scaled-below}
@@ -55,6 +62,11 @@ apart-nonzero {X} a h l e =
     impossible : whole (pos 1) ≤ℚ whole (pos 0) → ⊥
     impossible q = q .cross .le
 
+-- a value that lies in a range, in units
+pub record Lies (X : Fraction) (range : Range) : Type 0 where
+  pub from : whole (range .low) ≤ℚ X
+  pub to : X ≤ℚ whole (range .high)
+
 module _ (c : Schedule) (passed : Passed c) (x : ℕ → Fraction) (within : InputsWithin c x) (went : Went c (rowCount c)) where
   abbrev squares : ℕ
   squares = natural (c .squares)
@@ -62,9 +74,35 @@ module _ (c : Schedule) (passed : Passed c) (x : ℕ → Fraction) (within : Inp
   abbrev f : ℕ → Row
   f n = row c passed x n
 
+  abbrev g : ℕ → Range
+  g n = range c passed x n
+
   -- the exact value, in units
   abbrev pub X : ℕ → Fraction
   X n = scaled (value c passed x n)
+
+  -- the exact value of a row lies in its own range: an input's within its ends, any other where its form has the exact value
+  pub in-own : (ε : ℕ → Fraction) → Unit-symbols orderedFractions ε → (i : ℕ) → X i ≈ units ringOfFractions (f i) ε → Lies (X i) (g i)
+  in-own ε unital i same = by-line (lt-or-ge i (natural (c .inputs)))
+    where
+      shaped : Shaped (f i)
+      shaped = row-sound c (rowsUpTo c i) .shaped
+
+      by-line : (i < natural (c .inputs)) ⊎ (natural (c .inputs) ≤ i) → Lies (X i) (g i)
+      by-line (inl l) =
+          subst (λ v. Lies (scaled v) (g i)) (sym (input-value c x i l))
+          (subst (Lies (scaled (x i))) (sym (own-of-input c i (f i) l))
+          (record { from = scaled-above (≤ℚ-of-not-below (within i l .not-below)); to = scaled-below (≤ℚ-of-not-below (within i l .not-above)) }))
+      by-line (inr l) =
+          subst (Lies (X i)) (sym (own-of-step c i (f i) l))
+          (record {
+            from = le-cong orderedFractions (≈-refl _) (≈-sym same) (low-holds-value orderedFractions ε unital (f i) shaped);
+            to = le-cong orderedFractions (≈-sym same) (≈-refl _) (high-holds-value orderedFractions ε unital (f i) shaped);
+          })
+
+  -- so it is as far from 0 as that range
+  pub own-apart : (i : ℕ) → zeroInRange (g i) ≡ false → Lies (X i) (g i) → ¬ (X i ≈ whole (pos 0))
+  own-apart i a l = apart-nonzero (distance (g i)) (distance-is-end (g i) a .0) (value-apart orderedFractions (g i) a (l .from) (l .to))
 
   module _ (n : ℕ) (h : n < rowCount c) (ε : ℕ → Fraction) (unital : Unit-symbols orderedFractions ε) (off : ε n ≈ whole (pos 0))
       (same : (i : ℕ) → i < n → X i ≈ units ringOfFractions (f i) ε) where
@@ -118,17 +156,18 @@ module _ (c : Schedule) (passed : Passed c) (x : ℕ → Fraction) (within : Inp
         uses i l = fact c passed x went i (omega arith) .uses
     by-origin (is-reciprocal l i hi a e v) =
         enclosed e v
-        (subst (λ z. Bound orderedFractions (scaled (reciprocal (value c passed x i)) -ℚ units ringOfFractions (reciprocalRow squares n (f i) (distance (f i))) ε) (whole z))
-        (sym (reciprocal-own squares n (f i) (distance (f i)) here))
-        (reciprocal-encloses orderedFractions ε unital (f i) (shape i hi) a squares (squares-few c passed) (fact c passed x went i (omega arith) .uses) n off
+        (subst (λ z. Bound orderedFractions (scaled (reciprocal (value c passed x i)) -ℚ units ringOfFractions (reciprocalRow squares n (f i) (distance (g i))) ε) (whole z))
+        (sym (reciprocal-own squares n (f i) (distance (g i)) here))
+        (reciprocal-encloses orderedFractions ε unital (f i) (shape i hi) (g i) a
+        (le-cong orderedFractions (≈-refl _) (same i hi) (lies .from)) (le-cong orderedFractions (same i hi) (≈-refl _) (lies .to))
+        squares (squares-few c passed) (fact c passed x went i (omega arith) .uses) n off
         (scaled (reciprocal (value c passed x i))) inverse))
       where
-        nonzero : ¬ (X i ≈ whole (pos 0))
-        nonzero z =
-            apart-nonzero (distance (f i)) (distance-is-end (low (f i)) (high (f i)) a .0) (value-apart orderedFractions ε unital (f i) (shape i hi) a) (≈-trans (≈-sym (same i hi)) z)
+        lies : Lies (X i) (g i)
+        lies = in-own ε unital i (same i hi)
 
         upper-nonzero : value c passed x i .upper ≢ pos 0
-        upper-nonzero z = nonzero (≈-trans (*ℚ-cong (≈-refl _) (≈-zero-of-upper z)) (ring ringOfFractions 1 (λ u. u ⊗ con (pos 0) ≐ con (pos 0)) tt _))
+        upper-nonzero z = own-apart i a lies (≈-trans (*ℚ-cong (≈-refl _) (≈-zero-of-upper z)) (ring ringOfFractions 1 (λ u. u ⊗ con (pos 0) ≐ con (pos 0)) tt _))
 
         inverse : scaled (reciprocal (value c passed x i)) *ℚ units ringOfFractions (f i) ε ≈ whole (pos unitSquared)
         inverse =

@@ -1,17 +1,16 @@
 -- What holds of every row of accepted work: its pairs, the symbols on which it depends, and its own coefficient.
 use mathlib.Core.Path.{_≡_, refl, sym, ap, _∙_, subst}
 use mathlib.Core.Logic.{_≢_, _⊎_, inl, inr}
-use mathlib.Core.Bool.{true}
 use Prim.Native.Nat.{ℕ, _≤_, _<_}
 use native.Mathlib.Nat.{eq-or-lt-of-le}
 use native.Mathlib.Omega.{arith}
 use lib.IntN.{ℤ, pos, natAbs, _+ℤ_, _-ℤ_}
-use lib.Dec.{T}
-use lib.Signed.{leZ, _≤ℤ_, leZ-yes}
+use lib.Signed.{_≤ℤ_}
 use Rattle.integer.specs.Fraction.{Fraction}
 use Rattle.integer.proofs.Order.{pos-≤ℤ}
 use Rattle.integer.proofs.Absolute.{natAbs-of-nonneg}
 use Rattle.affine.specs.declared.Row.{Row}
+use Rattle.affine.specs.declared.Range.{Range}
 use Rattle.affine.specs.Limits.{symbols}
 use Rattle.affine.specs.Lists.{at}
 use Rattle.affine.specs.Steps.{constantRow, addRows, subtractRows}
@@ -26,7 +25,8 @@ use Rattle.evaluation.specs.Work.{rowCount}
 use Rattle.evaluation.proofs.Sequence.{complete}
 use Rattle.evaluation.proofs.Induction.{lt-or-ge}
 use Rattle.evaluation.proofs.WorkLaws.{Went}
-use Rattle.evaluation.proofs.Made.{Made, is-input, is-constant, is-sum, is-difference, is-product, is-reciprocal, row, made, rows-few}
+use Rattle.evaluation.proofs.Made.{Made, is-input, is-constant, is-sum, is-difference, is-product, is-reciprocal, row, range, made}
+use Rattle.evaluation.proofs.RowLines.{rows-few, ends-ordered}
 
 -- how sums and differences are made, number by number
 abbrev plus : ℤ → ℤ → ℤ
@@ -45,6 +45,10 @@ module _ (c : Schedule) (passed : Passed c) (x : ℕ → Fraction) (went : Went 
   -- a row of the sheet, what it was made of
   abbrev f : ℕ → Row
   f n = row c passed x n
+
+  -- and its own range
+  abbrev g : ℕ → Range
+  g n = range c passed x n
 
   origin : (n : ℕ) → n < count → Made c passed x n
   origin n h = made c passed x went n h
@@ -82,8 +86,8 @@ module _ (c : Schedule) (passed : Passed c) (x : ℕ → Fraction) (went : Went 
           fact-of n e (product-uses squares n (f i) (f j))
           (λ m k. product-free m squares n (f i) (f j) (apart k) (ih i hi (omega arith) .later m (omega arith)) (ih j hj (omega arith) .later m (omega arith)))
       by-origin n h ih (is-reciprocal l i hi a e v) =
-          fact-of n e (reciprocal-uses squares n (f i) (distance (f i)))
-          (λ m k. reciprocal-free m squares n (f i) (distance (f i)) (apart k) (ih i hi (omega arith) .later m (omega arith)))
+          fact-of n e (reciprocal-uses squares n (f i) (distance (g i)))
+          (λ m k. reciprocal-free m squares n (f i) (distance (g i)) (apart k) (ih i hi (omega arith) .later m (omega arith)))
 
   -- an earlier row does not depend on the symbol of a later one
   earlier-free : (n i : ℕ) → n < count → i < n → FreeOf n (f i)
@@ -92,9 +96,6 @@ module _ (c : Schedule) (passed : Passed c) (x : ℕ → Fraction) (went : Went 
   -- ---- the own coefficient
   abbrev pub own : ℕ → ℕ
   own n = natAbs (at (f n .linear) n)
-
-  ordered : (a b : ℤ) → leZ a b ≡ true → a ≤ℤ b
-  ordered a b e = leZ-yes (subst T (sym e) tt)
 
   own-nonneg : (n : ℕ) → n < count → pos 0 ≤ℤ at (f n .linear) n
   own-nonneg n h = by-origin (origin n h)
@@ -108,12 +109,12 @@ module _ (c : Schedule) (passed : Passed c) (x : ℕ → Fraction) (went : Went 
       by-origin : Made c passed x n → pos 0 ≤ℤ at (f n .linear) n
       by-origin (is-input l e v) =
           subst (λ z. pos 0 ≤ℤ z) (sym (ap (λ r. at (r .linear) n) e ∙ input-own n (endsAt c n .low) (endsAt c n .high) here))
-          (input-own-nonneg (endsAt c n .low) (endsAt c n .high) (ordered _ _ (passed .ends n l .order)))
+          (input-own-nonneg (endsAt c n .low) (endsAt c n .high) (ends-ordered c passed n l))
       by-origin (is-constant l v e q) = natural-own e (constant-free n v .linear)
       by-origin (is-sum l i j hi hj e v) = natural-own e (zip-free n plus refl (f i) (f j) (earlier-free n i h hi) (earlier-free n j h hj) .linear)
       by-origin (is-difference l i j hi hj e v) = natural-own e (zip-free n less refl (f i) (f j) (earlier-free n i h hi) (earlier-free n j h hj) .linear)
       by-origin (is-product l i j hi hj e v) = natural-own e (product-own squares n (f i) (f j) here)
-      by-origin (is-reciprocal l i hi a e v) = natural-own e (reciprocal-own squares n (f i) (distance (f i)) here)
+      by-origin (is-reciprocal l i hi a e v) = natural-own e (reciprocal-own squares n (f i) (distance (g i)) here)
 
   pub own-is : (n : ℕ) → n < count → at (f n .linear) n ≡ pos (own n)
   own-is n h = sym (natAbs-of-nonneg (own-nonneg n h))
@@ -128,7 +129,7 @@ module _ (c : Schedule) (passed : Passed c) (x : ℕ → Fraction) (went : Went 
       by-origin (is-sum l i j hi hj e v) = subst (NoPairOf n) (sym e) (free-no-pair n (addRows (f i) (f j)) (zip-free n plus refl (f i) (f j) (earlier-free n i h hi) (earlier-free n j h hj)))
       by-origin (is-difference l i j hi hj e v) = subst (NoPairOf n) (sym e) (free-no-pair n (subtractRows (f i) (f j)) (zip-free n less refl (f i) (f j) (earlier-free n i h hi) (earlier-free n j h hj)))
       by-origin (is-product l i j hi hj e v) = subst (NoPairOf n) (sym e) (product-no-pair n squares n (f i) (f j) (earlier-free n i h hi) (earlier-free n j h hj))
-      by-origin (is-reciprocal l i hi a e v) = subst (NoPairOf n) (sym e) (reciprocal-no-pair n squares n (f i) (distance (f i)) (earlier-free n i h hi))
+      by-origin (is-reciprocal l i hi a e v) = subst (NoPairOf n) (sym e) (reciprocal-no-pair n squares n (f i) (distance (g i)) (earlier-free n i h hi))
 
   -- "A symbol whose own coefficient is 0 has coefficient 0 in every row"
   pub owned : (n m : ℕ) → n < count → m < count → own m ≡ 0 → FreeOf m (f n)
@@ -142,7 +143,7 @@ module _ (c : Schedule) (passed : Passed c) (x : ℕ → Fraction) (went : Went 
       by-origin n k h ih (is-product l i j hi hj e v) =
           subst (FreeOf m) (sym e) (product-free m squares n (f i) (f j) (λ q. apart k (sym q)) (ih i hi (omega arith)) (ih j hj (omega arith)))
       by-origin n k h ih (is-reciprocal l i hi a e v) =
-          subst (FreeOf m) (sym e) (reciprocal-free m squares n (f i) (distance (f i)) (λ q. apart k (sym q)) (ih i hi (omega arith)))
+          subst (FreeOf m) (sym e) (reciprocal-free m squares n (f i) (distance (g i)) (λ q. apart k (sym q)) (ih i hi (omega arith)))
 
       by-place : (n : ℕ) → n < count → ((i : ℕ) → i < n → i < count → FreeOf m (f i)) → (n < m) ⊎ (m ≤ n) → FreeOf m (f n)
       by-place n h ih (inl l) = fact n h .later m l

@@ -1,4 +1,6 @@
--- Whatever an answer says, its row has as many numbers as a row has and lies within the span limit: what is not checked is a row of zeros.
+-- Whatever an answer says, its row has as many numbers as a row has and lies within the span limit, for what is not checked is a row of zeros; and a
+-- step's answer tells the range of its row's form.
+use mathlib.Core.Path.{_≡_, refl}
 use mathlib.Core.List.{List}
 use Prim.Native.Nat.{ℕ, _-_, _≤_}
 use native.Mathlib.Omega.{arith}
@@ -7,11 +9,15 @@ use lib.Dec.{eqb, ltb}
 use lib.IntN.{ℤ, pos, _+ℤ_, _-ℤ_}
 use lib.ListN.{length}
 use Rattle.affine.specs.declared.Row.{Row}
+use Rattle.affine.specs.declared.Range.{Range}
 use Rattle.affine.specs.declared.Answer.{Answer}
+use Rattle.affine.specs.declared.Status.{Status}
 use Rattle.affine.specs.declared.Status.the-variants.{SpanPassed, ZeroInRange}
 use Rattle.affine.specs.Limits.{spanLimit}
-use Rattle.affine.specs.Row.{span, withinSpan}
-use Rattle.affine.specs.Steps.{constantRow, checked, refused, accepted as acceptedRow}
+use Rattle.affine.specs.Lists.{tabulate, sum}
+use Rattle.affine.specs.PairOrder.{overPairs, firsts, seconds}
+use Rattle.affine.specs.Row.{span, withinSpan, pairBelow, pairAbove, pairsBelow, pairsAbove, low, high, formRange}
+use Rattle.affine.specs.Steps.{constantRow, checked, checkedWith, endsRange, inputRow, refused, accepted as acceptedRow}
 use Rattle.affine.specs.Reciprocal.{zeroInRange, distance, candidate, reciprocalRow, reciprocalApart, reciprocal}
 use Rattle.affine.proofs.Lists.{pick-elim}
 use Rattle.affine.proofs.Form.{Shaped}
@@ -19,8 +25,35 @@ use Rattle.affine.proofs.WellFormed.{constant-shaped, input-shaped, zip-shaped,
 use Rattle.sheet.specs.declared.Step.{Step}
 use Rattle.sheet.specs.declared.Schedule.{Schedule}
 use Rattle.sheet.specs.Lines.{natural, endsAt, stepAt}
-use Rattle.evaluation.specs.Work.{namedRow, binaryAnswer, stepAnswer, rowAnswer}
+use Rattle.evaluation.specs.Work.{ownRanges, namedRow, namedRange, binaryAnswer, stepAnswer, rowAnswer}
 
+-- ---- what holds of every checked row and of every refusal holds of a step's answer
+module _ (P : Answer → Type 0) (of-checked : (r : Row) → Shaped r → P (checked r)) (of-refused : (s : Status) → P (refused s)) where
+  of-reciprocal : (squares own : ℕ) (x : Row) (range : Range) → P (reciprocal squares own x range)
+  of-reciprocal squares own x range =
+      let r = reciprocalRow squares own x (distance range) in
+      pick-elim P (zeroInRange range) (refused ZeroInRange) (reciprocalApart squares own x (distance range))
+      (λ e. of-refused ZeroInRange)
+      (λ e. pick-elim P (withinSpan (candidate squares x)) (checked r) (refused SpanPassed)
+      (λ e. of-checked r (reciprocal-shaped squares own x (distance range))) (λ e. of-refused SpanPassed))
+
+  of-binary : (squares own : ℕ) (code : ℤ) (x y : Row) → P (binaryAnswer squares own code x y)
+  unfolding binaryAnswer
+  of-binary squares own code x y =
+      pick-elim P (eqb (natural code) 2) _ _
+      (λ e. of-checked _ (zip-shaped (λ a b. a +ℤ b) x y))
+      (λ e. pick-elim P (eqb (natural code) 3) _ _ (λ e. of-checked _ (zip-shaped (λ a b. a -ℤ b) x y)) (λ e. of-checked _ (product-shaped squares own x y)))
+
+  of-step : (squares : ℕ) (rows : List Row) (ranges : List Range) (t : Step) → P (stepAnswer squares rows ranges t)
+  unfolding stepAnswer
+  of-step squares rows ranges t =
+      pick-elim P (eqb (natural (t .code)) 1) _ _
+      (λ e. of-checked _ (constant-shaped (t .value)))
+      (λ e. pick-elim P (eqb (natural (t .code)) 5) _ _
+      (λ e. of-reciprocal squares (length rows) (namedRow rows (t .first)) (namedRange ranges (t .first)))
+      (λ e. of-binary squares (length rows) (t .code) (namedRow rows (t .first)) (namedRow rows (t .second))))
+
+-- ---- the row of any answer
 pub record Sound (r : Row) : Type 0 where
   pub shaped : Shaped r
   pub within : span r ≤ spanLimit
@@ -29,41 +62,34 @@ zeros-sound : Sound (constantRow (pos 0))
 unfolding span
 zeros-sound = record { shaped = constant-shaped (pos 0); within = omega arith }
 
--- an answer whose row is sound
 abbrev SoundAnswer : Answer → Type 0
 SoundAnswer a = Sound (a .row)
 
-checked-sound : (r : Row) → Shaped r → SoundAnswer (checked r)
-checked-sound r s = pick-elim SoundAnswer (withinSpan r) (acceptedRow r) (refused SpanPassed) (λ e. record { shaped = s; within = leb-true (span r) spanLimit e }) (λ e. zeros-sound)
-
-reciprocal-sound : (squares own : ℕ) (x : Row) → SoundAnswer (reciprocal squares own x)
-reciprocal-sound squares own x =
-    let r = reciprocalRow squares own x (distance x) in
-    pick-elim SoundAnswer (zeroInRange x) (refused ZeroInRange) (reciprocalApart squares own x (distance x))
-    (λ e. zeros-sound)
-    (λ e. pick-elim SoundAnswer (withinSpan (candidate squares x)) (checked r) (refused SpanPassed)
-    (λ e. checked-sound r (reciprocal-shaped squares own x (distance x))) (λ e. zeros-sound))
-
-binary-sound : (squares own : ℕ) (code : ℤ) (x y : Row) → SoundAnswer (binaryAnswer squares own code x y)
-unfolding binaryAnswer
-binary-sound squares own code x y =
-    pick-elim SoundAnswer (eqb (natural code) 2) _ _
-    (λ e. checked-sound _ (zip-shaped (λ a b. a +ℤ b) x y))
-    (λ e. pick-elim SoundAnswer (eqb (natural code) 3) _ _ (λ e. checked-sound _ (zip-shaped (λ a b. a -ℤ b) x y)) (λ e. checked-sound _ (product-shaped squares own x y)))
-
-step-sound : (squares : ℕ) (rows : List Row) (t : Step) → SoundAnswer (stepAnswer squares rows t)
-unfolding stepAnswer
-step-sound squares rows t =
-    pick-elim SoundAnswer (eqb (natural (t .code)) 1) _ _
-    (λ e. checked-sound _ (constant-shaped (t .value)))
-    (λ e. pick-elim SoundAnswer (eqb (natural (t .code)) 5) _ _
-    (λ e. reciprocal-sound squares (length rows) (namedRow rows (t .first)))
-    (λ e. binary-sound squares (length rows) (t .code) (namedRow rows (t .first)) (namedRow rows (t .second))))
+checked-sound : (r : Row) (own : Range) → Shaped r → SoundAnswer (checkedWith r own)
+checked-sound r own s =
+    pick-elim SoundAnswer (withinSpan r) (acceptedRow r own) (refused SpanPassed) (λ e. record { shaped = s; within = leb-true (span r) spanLimit e }) (λ e. zeros-sound)
 
 pub row-sound : (c : Schedule) (rows : List Row) → Sound (rowAnswer c rows .row)
 unfolding rowAnswer
 row-sound c rows =
     let n = length rows in
+    let low = endsAt c n .low in
+    let high = endsAt c n .high in
     pick-elim SoundAnswer (ltb n (natural (c .inputs))) _ _
-    (λ e. checked-sound _ (input-shaped n (endsAt c n .low) (endsAt c n .high)))
-    (λ e. step-sound (natural (c .squares)) rows (stepAt c (n - natural (c .inputs))))
+    (λ e. checked-sound (inputRow n low high) (endsRange low high) (input-shaped n low high))
+    (λ e. of-step SoundAnswer (λ r s. checked-sound r (formRange r) s) (λ s. zeros-sound)
+    (natural (c .squares)) rows (ownRanges c rows) (stepAt c (n - natural (c .inputs))))
+
+-- ---- the range of a step's answer
+abbrev TellsForm : Answer → Type 0
+TellsForm a = a .range ≡ formRange (a .row)
+
+refused-tells : (s : Status) → TellsForm (refused s)
+unfolding low high pairsBelow pairsAbove pairBelow pairAbove tabulate sum overPairs firsts seconds
+refused-tells s = refl
+
+pub step-tells : (squares : ℕ) (rows : List Row) (ranges : List Range) (t : Step) → TellsForm (stepAnswer squares rows ranges t)
+step-tells =
+    of-step TellsForm
+    (λ r s. pick-elim TellsForm (withinSpan r) (acceptedRow r (formRange r)) (refused SpanPassed) (λ e. refl) (λ e. refused-tells SpanPassed))
+    refused-tells

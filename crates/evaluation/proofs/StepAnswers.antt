@@ -1,4 +1,5 @@
--- The answer of a row whose earlier rows stand in a table: an input's, or a step's by its code, from the rows read where its fields say.
+-- The answer of a row whose earlier rows stand in a table, and their ranges in a second: an input's, or a step's by its code, from the rows and the
+-- range read where its fields say.
 use mathlib.Core.Path.{_≡_, sym, ap, ap₂, _∙_, subst}
 use mathlib.Core.List.{List}
 use Prim.Native.Nat.{ℕ, _+_, _*_, _-_, _≤_, _<_}
@@ -7,20 +8,22 @@ use borrow.Author.Tests.{ne-eqb}
 use lib.IntN.{ℤ, pos}
 use lib.ListN.{length}
 use Rattle.affine.specs.declared.Row.{Row}
+use Rattle.affine.specs.declared.Range.{Range}
 use Rattle.affine.specs.declared.Answer.{Answer}
 use Rattle.affine.specs.Limits.{spanLimit}
 use Rattle.affine.specs.Row.{span}
-use Rattle.affine.specs.Steps.{constantRow, inputRow, checked}
-use Rattle.affine.specs.Reciprocal.{reciprocal}
+use Rattle.affine.specs.Steps.{constantRow, checked, inputAnswer}
+use Rattle.affine.specs.Reciprocal.{reciprocal, ApartOutweighs}
 use Rattle.affine.proofs.Lists.{length-tabulate, getD-tabulate}
 use Rattle.sheet.specs.declared.Step.{Step}
 use Rattle.sheet.specs.declared.Schedule.{Schedule}
 use Rattle.sheet.specs.Lines.{natural, endsAt, stepAt}
 use Rattle.sheet.specs.Limits.{lastCode}
 use Rattle.sheet.proofs.Passing.{Natural}
-use Rattle.evaluation.specs.Table.{rowWidth, rowAt, rowsIn, RowsWithin}
-use Rattle.evaluation.specs.Work.{namedRow, binaryAnswer, stepAnswer, rowAnswer}
-use Rattle.evaluation.proofs.Made.{rowAnswer-input, rowAnswer-step}
+use Rattle.evaluation.specs.Table.{rowWidth, rangeWidth, rowAt, rangeAt, rowsIn, rangesIn, RowsWithin, RangesOf}
+use Rattle.evaluation.specs.Work.{ownRanges, namedRow, namedRange, binaryAnswer, stepAnswer, rowAnswer}
+use Rattle.evaluation.proofs.RowLines.{rowAnswer-input, rowAnswer-step}
+use Rattle.evaluation.proofs.OwnRanges.{noRange}
 
 pub length-rowsIn : (table : List ℤ) (n : ℕ) → length (rowsIn table n) ≡ n
 unfolding rowsIn
@@ -30,6 +33,10 @@ namedRow-rowsIn : (table : List ℤ) (n : ℕ) (z : ℤ) → Natural 1 n z → n
 unfolding rowsIn
 namedRow-rowsIn table n z h = getD-tabulate n (rowAt table) (constantRow (pos 0)) (natural z - 1) (omega (arith, h .from, h .to))
 
+namedRange-rangesIn : (ranges : List ℤ) (n : ℕ) (z : ℤ) → Natural 1 n z → namedRange (rangesIn ranges n) z ≡ rangeAt ranges (natural z - 1)
+unfolding rangesIn
+namedRange-rangesIn ranges n z h = getD-tabulate n (rangeAt ranges) noRange (natural z - 1) (omega (arith, h .from, h .to))
+
 -- a row read from the first n of a table
 module _ {table : List ℤ} {n k : ℕ} (within : RowsWithin table n) (earlier : k < n) where
   pub read-room : rowWidth * k + rowWidth ≤ length table
@@ -38,7 +45,15 @@ module _ {table : List ℤ} {n k : ℕ} (within : RowsWithin table n) (earlier :
   pub read-span : {x : Row} → x ≡ rowAt table k → span x ≤ spanLimit
   read-span read = subst (λ r. span r ≤ spanLimit) (sym read) (within .spans k earlier)
 
--- the row at the index that a field names
+-- a range read from the first n of the second
+pub read-range-room : {table ranges : List ℤ} {n k : ℕ} → RangesOf table ranges n → k < n → rangeWidth * k + rangeWidth ≤ length ranges
+read-range-room of earlier = omega (arith, of .room, earlier)
+
+pub read-apart : {table ranges : List ℤ} {n k : ℕ} → RangesOf table ranges n → k < n → {x : Row} {range : Range} → x ≡ rowAt table k → range ≡ rangeAt ranges k → ApartOutweighs range x
+read-apart {table} {ranges} {n} {k} of earlier {x} {range} row-read range-read =
+    subst (λ r. ApartOutweighs range r) (sym row-read) (subst (λ r. ApartOutweighs r (rowAt table k)) (sym range-read) (of .apart k earlier))
+
+-- the row at the index that a field names, and its range
 module _ {n k : ℕ} {z : ℤ} (named : Natural 1 n z) (index : k ≡ natural z) where
   pub named-earlier : k - 1 < n
   named-earlier = omega (arith, named .from, named .to)
@@ -46,20 +61,28 @@ module _ {n k : ℕ} {z : ℤ} (named : Natural 1 n z) (index : k ≡ natural z)
   pub named-is : (table : List ℤ) → rowAt table (k - 1) ≡ namedRow (rowsIn table n) z
   named-is table = ap (λ m. rowAt table (m - 1)) index ∙ sym (namedRow-rowsIn table n z named)
 
+  pub named-range-is : (ranges : List ℤ) → rangeAt ranges (k - 1) ≡ namedRange (rangesIn ranges n) z
+  named-range-is ranges = ap (λ m. rangeAt ranges (m - 1)) index ∙ sym (namedRange-rangesIn ranges n z named)
+
 -- the answer, by the code
-module _ (squares : ℕ) (table : List ℤ) (n : ℕ) (t : Step) where
-  pub constant-step : {a : Answer} → natural (t .code) ≡ 1 → a ≡ checked (constantRow (t .value)) → a ≡ stepAnswer squares (rowsIn table n) t
+module _ (squares : ℕ) (table ranges : List ℤ) (n : ℕ) (t : Step) where
+  pub constant-step : {a : Answer} → natural (t .code) ≡ 1 → a ≡ checked (constantRow (t .value)) → a ≡ stepAnswer squares (rowsIn table n) (rangesIn ranges n) t
   unfolding stepAnswer
   constant-step e q = q ∙ rw e
 
-  pub reciprocal-step : {a : Answer} {x : Row} → natural (t .code) ≡ lastCode → x ≡ namedRow (rowsIn table n) (t .first) → a ≡ reciprocal squares n x
-      → a ≡ stepAnswer squares (rowsIn table n) t
+  pub reciprocal-step : {a : Answer} {x : Row} {range : Range} → natural (t .code) ≡ lastCode → x ≡ namedRow (rowsIn table n) (t .first)
+      → range ≡ namedRange (rangesIn ranges n) (t .first) → a ≡ reciprocal squares n x range
+      → a ≡ stepAnswer squares (rowsIn table n) (rangesIn ranges n) t
   unfolding stepAnswer
-  reciprocal-step e named q = q ∙ ap₂ (reciprocal squares) (sym (length-rowsIn table n)) named ∙ rw e
+  reciprocal-step {a} {x} {range} e named told q =
+      q
+      ∙ ap (λ m. reciprocal squares m x range) (sym (length-rowsIn table n))
+      ∙ ap₂ (reciprocal squares (length (rowsIn table n))) named told
+      ∙ rw e
 
   pub binary-step : {a : Answer} {x y : Row} → (natural (t .code) ≡ 1 → ⊥) → (natural (t .code) ≡ lastCode → ⊥)
       → x ≡ namedRow (rowsIn table n) (t .first) → y ≡ namedRow (rowsIn table n) (t .second) → a ≡ binaryAnswer squares n (t .code) x y
-      → a ≡ stepAnswer squares (rowsIn table n) t
+      → a ≡ stepAnswer squares (rowsIn table n) (rangesIn ranges n) t
   unfolding stepAnswer
   binary-step {a} {x} {y} not-constant not-reciprocal first second q =
       q
@@ -68,12 +91,16 @@ module _ (squares : ℕ) (table : List ℤ) (n : ℕ) (t : Step) where
       ∙ rw (ne-eqb _ 1 not-constant, ne-eqb _ lastCode not-reciprocal)
 
 -- the answer, by the row's line
-module _ (c : Schedule) (table : List ℤ) (n : ℕ) where
-  pub input-answer : {a : Answer} → n < natural (c .inputs) → a ≡ checked (inputRow n (endsAt c n .low) (endsAt c n .high)) → a ≡ rowAnswer c (rowsIn table n)
+module _ (c : Schedule) (table ranges : List ℤ) (n : ℕ) where
+  pub input-answer : {a : Answer} → n < natural (c .inputs) → a ≡ inputAnswer n (endsAt c n .low) (endsAt c n .high) → a ≡ rowAnswer c (rowsIn table n)
   input-answer h q = q ∙ sym (rowAnswer-input c (rowsIn table n) n (length-rowsIn table n) h)
 
-  -- squares and inputs: the counts, as read
+  -- squares and inputs: the counts, as read; the second table holds the own ranges
   pub step-answer : {a : Answer} {squares inputs : ℕ} → squares ≡ natural (c .squares) → inputs ≡ natural (c .inputs) → natural (c .inputs) ≤ n
-      → a ≡ stepAnswer squares (rowsIn table n) (stepAt c (n - inputs)) → a ≡ rowAnswer c (rowsIn table n)
-  step-answer e f h q =
-      q ∙ ap₂ (λ s k. stepAnswer s (rowsIn table n) (stepAt c (n - k))) e f ∙ sym (rowAnswer-step c (rowsIn table n) n (length-rowsIn table n) h)
+      → rangesIn ranges n ≡ ownRanges c (rowsIn table n)
+      → a ≡ stepAnswer squares (rowsIn table n) (rangesIn ranges n) (stepAt c (n - inputs)) → a ≡ rowAnswer c (rowsIn table n)
+  step-answer {a} {squares} {inputs} e f h own q =
+      q
+      ∙ ap₂ (λ s k. stepAnswer s (rowsIn table n) (rangesIn ranges n) (stepAt c (n - k))) e f
+      ∙ ap (λ l. stepAnswer (natural (c .squares)) (rowsIn table n) l (stepAt c (n - natural (c .inputs)))) own
+      ∙ sym (rowAnswer-step c (rowsIn table n) n (length-rowsIn table n) h)

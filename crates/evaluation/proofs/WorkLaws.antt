@@ -10,12 +10,13 @@ use borrow.Author.Tests.{eqb-true, eqb-false}
 use lib.Dec.{eqb}
 use lib.ListN.{length}
 use Rattle.affine.specs.declared.Row.{Row}
+use Rattle.affine.specs.declared.Range.{Range}
 use Rattle.affine.specs.declared.Status.{Status}
 use Rattle.affine.specs.declared.Status.the-variants.{Accepted, SpanPassed, ZeroInRange}
 use Rattle.affine.specs.declared.Answer.{Answer}
 use Rattle.affine.specs.Lists.{pick}
-use Rattle.affine.specs.Row.{withinSpan}
-use Rattle.affine.specs.Steps.{checked, number, refused, accepted as acceptedRow}
+use Rattle.affine.specs.Row.{withinSpan, formRange}
+use Rattle.affine.specs.Steps.{checked, checkedWith, number, refused, accepted as acceptedRow}
 use Rattle.affine.specs.Reciprocal.{zeroInRange, distance, candidate, reciprocalRow, reciprocalApart, reciprocal}
 use Rattle.sheet.specs.declared.Schedule.{Schedule}
 use Rattle.sheet.specs.Causes.{refusal, accepted}
@@ -30,7 +31,7 @@ nextRow c rows = rowAnswer c rows .row
 abbrev pub rowsUpTo : Schedule → ℕ → List Row
 rowsUpTo c n = grown (nextRow c) n
 
-number-zero : (s : Status) → number s ≡ 0 → s ≡ Accepted
+pub number-zero : (s : Status) → number s ≡ 0 → s ≡ Accepted
 number-zero Accepted e = refl
 number-zero SpanPassed e = absurd (omega arith)
 number-zero ZeroInRange e = absurd (omega arith)
@@ -85,26 +86,29 @@ went c (suc n) h = by-test (eqb (worked c n .refusal .number) 0) refl refl h (λ
     by-test true e q h ih = went-on c n (ih (eqb-true _ _ e)) h q
 
 -- ---- what an accepted answer holds
-pub checked-accepted : (r : Row) → checked r .status ≡ Accepted → checked r .row ≡ r
-checked-accepted r h = by-test (withinSpan r) h
+pub checked-accepted : (r : Row) (own : Range) → checkedWith r own .status ≡ Accepted → checkedWith r own ≡ acceptedRow r own
+checked-accepted r own h = by-test (withinSpan r) h
   where
-    by-test : (t : Bool) → pick t (acceptedRow r) (refused SpanPassed) .status ≡ Accepted → pick t (acceptedRow r) (refused SpanPassed) .row ≡ r
+    by-test : (t : Bool) → pick t (acceptedRow r own) (refused SpanPassed) .status ≡ Accepted → pick t (acceptedRow r own) (refused SpanPassed) ≡ acceptedRow r own
     by-test true h = refl
     by-test false h = absurd (let z : number SpanPassed ≡ number Accepted = ap number h in omega arith)
 
-pub record Inverted (squares own : ℕ) (x : Row) : Type 0 where
-  pub apart : zeroInRange x ≡ false
-  pub row : reciprocal squares own x .row ≡ reciprocalRow squares own x (distance x)
+pub record Inverted (squares own : ℕ) (x : Row) (range : Range) : Type 0 where
+  pub apart : zeroInRange range ≡ false
+  pub row : reciprocal squares own x range .row ≡ reciprocalRow squares own x (distance range)
 
-pub reciprocal-accepted : (squares own : ℕ) (x : Row) → reciprocal squares own x .status ≡ Accepted → Inverted squares own x
-reciprocal-accepted squares own x h = by-range (zeroInRange x) refl h refl
+pub reciprocal-accepted : (squares own : ℕ) (x : Row) (range : Range) → reciprocal squares own x range .status ≡ Accepted → Inverted squares own x range
+reciprocal-accepted squares own x range h = by-range (zeroInRange range) refl h refl
   where
-    by-range : (t : Bool) → zeroInRange x ≡ t → pick t (refused ZeroInRange) (reciprocalApart squares own x (distance x)) .status ≡ Accepted
-        → reciprocal squares own x ≡ pick t (refused ZeroInRange) (reciprocalApart squares own x (distance x)) → Inverted squares own x
+    by-range : (t : Bool) → zeroInRange range ≡ t → pick t (refused ZeroInRange) (reciprocalApart squares own x (distance range)) .status ≡ Accepted
+        → reciprocal squares own x range ≡ pick t (refused ZeroInRange) (reciprocalApart squares own x (distance range)) → Inverted squares own x range
     by-range true e h q = absurd (let z : number ZeroInRange ≡ number Accepted = ap number h in omega arith)
     by-range false e h q = by-span (withinSpan (candidate squares x)) h q
       where
-        by-span : (t : Bool) → pick t (checked (reciprocalRow squares own x (distance x))) (refused SpanPassed) .status ≡ Accepted
-            → reciprocal squares own x ≡ pick t (checked (reciprocalRow squares own x (distance x))) (refused SpanPassed) → Inverted squares own x
-        by-span true h q = record { apart = e; row = ap (λ a. a .row) q ∙ checked-accepted (reciprocalRow squares own x (distance x)) h }
+        r : Row
+        r = reciprocalRow squares own x (distance range)
+
+        by-span : (t : Bool) → pick t (checked r) (refused SpanPassed) .status ≡ Accepted
+            → reciprocal squares own x range ≡ pick t (checked r) (refused SpanPassed) → Inverted squares own x range
+        by-span true h q = record { apart = e; row = ap (λ a. a .row) (q ∙ checked-accepted r (formRange r) h) }
         by-span false h q = absurd (let z : number SpanPassed ≡ number Accepted = ap number h in omega arith)

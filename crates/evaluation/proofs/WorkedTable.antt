@@ -1,62 +1,53 @@
--- What a table holds while rows are worked into it: the rows so far, each where it was put, and behind them what stood there before.
+-- What two tables hold while rows are worked into one and their ranges into the other: the rows and ranges so far, each where it was put, and
+-- behind them what stood there before.
 use mathlib.Core.Path.{_≡_, refl, sym, ap, ap₂, _∙_, subst}
-use mathlib.Core.List.{List, [], _∷_, _++_, append-assoc, append-nil}
+use mathlib.Core.List.{List, [], _∷_, _++_}
 use Prim.Native.Nat.{ℕ, zero, suc, _+_, _-_, _*_, _≤_, _<_}
 use native.Mathlib.Nat.{add-zero, add-suc}
 use native.Mathlib.Numerals.{add-one}
 use native.Mathlib.Omega.{arith}
 use borrow.Author.Tests.{eq-eqb, ne-eqb}
 use lib.IntN.{ℤ, pos}
-use lib.ListN.{length, getD, take, drop, length-append, length-drop}
-use lib.Seq.{paste, take-at, drop-at, take-all, drop-drop, ext-getD}
+use lib.ListN.{length, getD}
+use lib.Seq.{paste, ext-getD}
+use lib.Signed.{_≤ℤ_}
 use Rattle.affine.specs.declared.Row.{Row}
+use Rattle.affine.specs.declared.Range.{Range}
 use Rattle.affine.specs.declared.Answer.{Answer}
+use Rattle.affine.specs.declared.Status.the-variants.{Accepted}
 use Rattle.affine.specs.Limits.{spanLimit}
 use Rattle.affine.specs.Row.{numbers, span}
 use Rattle.affine.specs.Steps.{constantRow, number}
+use Rattle.affine.specs.Reciprocal.{ApartOutweighs}
 use Rattle.affine.proofs.Form.{Shaped}
 use Rattle.affine.proofs.Lists.{length-tabulate, getD-tabulate}
 use Rattle.sheet.specs.declared.Schedule.{Schedule}
 use Rattle.sheet.specs.Causes.{refusal, accepted}
-use Rattle.evaluation.specs.Table.{rowWidth, rowOfNumbers, rowAt, allNumbers, tableAfter, rowsIn, RowsWithin}
-use Rattle.evaluation.specs.Work.{onward, stopped, withAnswer, worked, rowAnswer}
+use Rattle.sheet.proofs.Passed.{Passed}
+use Rattle.evaluation.specs.Table.{rowWidth, rangeWidth, rowPart, rowOfNumbers, rangeOfNumbers, rangeNumbers, rowAt, rangeAt, tableAfter, rangesAfter, rowsIn, rangesIn, RowsWithin, RangesOf, RangesOrdered}
+use Rattle.evaluation.specs.Work.{ownRange, ownRanges, answeredRanges, onward, stopped, withAnswer, worked, rowAnswer}
 use Rattle.evaluation.proofs.Sequence.{length-grown, getD-grown}
-use Rattle.evaluation.proofs.TableLaws.{length-numbers, rowOfNumbers-numbers, rowPart-numbers}
-use Rattle.evaluation.proofs.WorkLaws.{nextRow, rowsUpTo, went}
+use Rattle.evaluation.proofs.TableLaws.{length-numbers, rowOfNumbers-numbers, Wide, length-after, part-after, after-more}
+use Rattle.evaluation.proofs.WorkLaws.{nextRow, rowsUpTo, went, number-zero}
 use Rattle.evaluation.proofs.SoundRows.{Sound, row-sound}
+use Rattle.evaluation.proofs.OwnRanges.{noRange, length-own, own-at, own-more, answer-range, own-outweighs, own-ordered}
+use Rattle.evaluation.proofs.EvaluationEnds.{nothing-put, nothing-told}
 
 -- the row that stands for none
 abbrev none : Row
 none = constantRow (pos 0)
 
 -- ---- rows of which each is sound, put into a table
-allNumbers-more : (rows : List Row) (r : Row) → allNumbers (rows ++ (r ∷ [])) ≡ allNumbers rows ++ numbers r
-unfolding allNumbers
-allNumbers-more [] r = append-nil (numbers r)
-allNumbers-more (x ∷ rows) r = ap (λ l. numbers x ++ l) (allNumbers-more rows r) ∙ sym (append-assoc (numbers x) (allNumbers rows) (numbers r))
-
-length-allNumbers : (rows : List Row) → ((i : ℕ) → i < length rows → Sound (getD rows i none)) → length (allNumbers rows) ≡ rowWidth * length rows
-unfolding allNumbers
-length-allNumbers [] s = refl
-length-allNumbers (r ∷ rows) s =
-    let first = length-numbers r (s 0 (omega arith) .shaped) in
-    let others = length-allNumbers rows (λ i l. s (suc i) (omega arith)) in
-    length-append (numbers r) (allNumbers rows) ∙ omega arith
-
 module _ (rows : List Row) (table : List ℤ) (sound : (i : ℕ) → i < length rows → Sound (getD rows i none)) where
+  wide : Wide rowWidth numbers none rows
+  wide i h = length-numbers (getD rows i none) (sound i h .shaped)
+
   pub length-tableAfter : rowWidth * length rows ≤ length table → length (tableAfter rows table) ≡ length table
-  unfolding tableAfter
-  length-tableAfter h =
-      length-append (allNumbers rows) (drop (rowWidth * length rows) table)
-      ∙ ap₂ (λ a b. a + b) (length-allNumbers rows sound) (length-drop (rowWidth * length rows) table)
-      ∙ omega arith
+  length-tableAfter = length-after rowWidth numbers none rows table wide
 
   -- each row is read back
   pub rowAt-tableAfter : (i : ℕ) → i < length rows → rowAt (tableAfter rows table) i ≡ getD rows i none
-  unfolding tableAfter
-  rowAt-tableAfter i h =
-      ap rowOfNumbers (rowPart-numbers rows (drop (rowWidth * length rows) table) i none h (λ j l. length-numbers (getD rows j none) (sound j l .shaped)))
-      ∙ rowOfNumbers-numbers (getD rows i none) (sound i h .shaped)
+  rowAt-tableAfter i h = ap rowOfNumbers (part-after rowWidth numbers none rows table wide i h) ∙ rowOfNumbers-numbers (getD rows i none) (sound i h .shaped)
 
   pub rowsIn-tableAfter : rowsIn (tableAfter rows table) (length rows) ≡ rows
   unfolding rowsIn
@@ -73,18 +64,24 @@ module _ (rows : List Row) (table : List ℤ) (sound : (i : ℕ) → i < length 
 
   -- one row more
   pub tableAfter-more : (r : Row) → Shaped r → tableAfter (rows ++ (r ∷ [])) table ≡ paste (tableAfter rows table) (rowWidth * length rows) (numbers r) rowWidth
-  unfolding tableAfter
-  tableAfter-more r s =
-      let before = allNumbers rows in
-      let at = rowWidth * length rows in
-      let behind = drop at table in
-      let end : rowWidth * length (rows ++ (r ∷ [])) ≡ at + rowWidth = omega (arith, length-append rows (r ∷ [])) in
-      let head : take at (before ++ behind) ≡ before = take-at before behind at (length-allNumbers rows sound) in
-      let middle : take rowWidth (numbers r) ≡ numbers r = take-all rowWidth (numbers r) (omega (arith, length-numbers r s)) in
-      let rest : drop (at + rowWidth) (before ++ behind) ≡ drop (at + rowWidth) table =
-      sym (drop-drop rowWidth at (before ++ behind)) ∙ ap (drop rowWidth) (drop-at before behind at (length-allNumbers rows sound)) ∙ drop-drop rowWidth at table in
-      ap₂ (λ a k. a ++ drop k table) (allNumbers-more rows r) end
-      ∙ sym (ap₂ (λ a b. a ++ b) (ap₂ (λ a b. a ++ b) head middle) rest)
+  tableAfter-more r s = after-more rowWidth numbers none rows table wide r (length-numbers r s)
+
+-- ---- ranges put into the second
+module _ (told : List Range) (ranges : List ℤ) where
+  pub length-rangesAfter : rangeWidth * length told ≤ length ranges → length (rangesAfter told ranges) ≡ length ranges
+  length-rangesAfter = length-after rangeWidth rangeNumbers noRange told ranges (λ i h. refl)
+
+  pub rangeAt-rangesAfter : (i : ℕ) → i < length told → rangeAt (rangesAfter told ranges) i ≡ getD told i noRange
+  rangeAt-rangesAfter i h = ap rangeOfNumbers (part-after rangeWidth rangeNumbers noRange told ranges (λ i h. refl) i h)
+
+  pub rangesIn-rangesAfter : rangesIn (rangesAfter told ranges) (length told) ≡ told
+  unfolding rangesIn
+  rangesIn-rangesAfter =
+      ext-getD noRange _ told (length-tabulate (length told) _)
+      (λ i h. let l : i < length told = subst (λ k. i < k) (length-tabulate (length told) (rangeAt (rangesAfter told ranges))) h in getD-tabulate (length told) _ noRange i l ∙ rangeAt-rangesAfter i l)
+
+  pub rangesAfter-more : (r : Range) → rangesAfter (told ++ (r ∷ [])) ranges ≡ paste (rangesAfter told ranges) (rangeWidth * length told) (rangeNumbers r) rangeWidth
+  rangesAfter-more r = after-more rangeWidth rangeNumbers noRange told ranges (λ i h. refl) r refl
 
 -- ---- the work: one row more, or a refusal that stays
 worked-more : (c : Schedule) (n : ℕ) → worked c n .refusal .number ≡ 0 → worked c (suc n) ≡ withAnswer (worked c n .rows) (rowAnswer c (worked c n .rows))
@@ -109,27 +106,35 @@ withAnswer-refused : (rows : List Row) (a : Answer) → (number (a .status) ≡ 
 unfolding withAnswer
 withAnswer-refused rows a e = rw (ne-eqb _ 0 e)
 
--- the first n rows of a schedule, none refused, worked into a table
-pub record WorkedInto (c : Schedule) (n : ℕ) (before after : List ℤ) : Type 0 where
+-- the first n rows of a schedule, none refused, worked into a table, and their ranges into a second
+pub record WorkedInto (c : Schedule) (n : ℕ) (before after beforeRanges afterRanges : List ℤ) : Type 0 where
   pub none-refused : worked c n .refusal .number ≡ 0
   pub left : after ≡ tableAfter (worked c n .rows) before
+  pub told : afterRanges ≡ rangesAfter (answeredRanges c (worked c n .rows)) beforeRanges
 
-pub worked-none : (c : Schedule) (table : List ℤ) → WorkedInto c 0 table table
-unfolding worked tableAfter allNumbers
-worked-none c table = record { none-refused = refl; left = refl }
+pub worked-none : (c : Schedule) (table ranges : List ℤ) → WorkedInto c 0 table table ranges ranges
+unfolding worked
+worked-none c table ranges = record { none-refused = refl; left = sym (nothing-put table); told = sym (nothing-told c ranges) }
 
-module _ {c : Schedule} {n : ℕ} {before after : List ℤ} (w : WorkedInto c n before after) where
+module _ {c : Schedule} {n : ℕ} {before after beforeRanges afterRanges : List ℤ} (w : WorkedInto c n before after beforeRanges afterRanges) where
   abbrev rows : List Row
   rows = worked c n .rows
+
+  abbrev own : List Range
+  own = ownRanges c rows
 
   long : length rows ≡ n
   long = ap length (went c n (w .none-refused) .rows) ∙ length-grown (nextRow c) n
 
+  long-own : length own ≡ n
+  long-own = length-own c rows ∙ long
+
+  -- each is what the work makes of the rows before it
+  row-made : (i : ℕ) → i < n → getD rows i none ≡ nextRow c (rowsUpTo c i)
+  row-made i h = ap (λ l. getD l i none) (went c n (w .none-refused) .rows) ∙ getD-grown (nextRow c) n none i h
+
   sound : (i : ℕ) → i < length rows → Sound (getD rows i none)
-  sound i h =
-      let made : getD rows i none ≡ nextRow c (rowsUpTo c i) =
-      ap (λ l. getD l i none) (went c n (w .none-refused) .rows) ∙ getD-grown (nextRow c) n none i (subst (λ k. i < k) long h) in
-      subst Sound (sym made) (row-sound c (rowsUpTo c i))
+  sound i h = subst Sound (sym (row-made i (subst (λ k. i < k) long h))) (row-sound c (rowsUpTo c i))
 
   pub accepted-so-far : worked c n .refusal ≡ accepted
   accepted-so-far = went c n (w .none-refused) .refusal
@@ -137,24 +142,72 @@ module _ {c : Schedule} {n : ℕ} {before after : List ℤ} (w : WorkedInto c n 
   rows-read : rowsIn after n ≡ rows
   rows-read = ap₂ rowsIn (w .left) (sym long) ∙ rowsIn-tableAfter rows before sound
 
+  pub ranges-read : rangesIn afterRanges n ≡ ownRanges c (rowsIn after n)
+  ranges-read = ap₂ rangesIn (w .told) (sym long-own) ∙ rangesIn-rangesAfter own beforeRanges ∙ ap (ownRanges c) (sym rows-read)
+
   pub length-kept : rowWidth * n ≤ length before → length after ≡ length before
   length-kept h = ap length (w .left) ∙ length-tableAfter rows before sound (subst (λ k. rowWidth * k ≤ length before) (sym long) h)
+
+  pub length-ranges-kept : rangeWidth * n ≤ length beforeRanges → length afterRanges ≡ length beforeRanges
+  length-ranges-kept h = ap length (w .told) ∙ length-rangesAfter own beforeRanges (subst (λ k. rangeWidth * k ≤ length beforeRanges) (sym long-own) h)
 
   pub rows-within : rowWidth * n ≤ length before → RowsWithin after n
   rows-within h =
       let within = rowsWithin-tableAfter rows before sound (subst (λ k. rowWidth * k ≤ length before) (sym long) h) in
       subst (λ k. RowsWithin after k) long (subst (λ t. RowsWithin t (length rows)) (sym (w .left)) within)
 
+  -- the row and the range with index i, as the tables hold them
+  pub part-held : (i : ℕ) → i < n → rowPart after i ≡ numbers (nextRow c (rowsUpTo c i))
+  part-held i h =
+      ap (λ t. rowPart t i) (w .left) ∙ part-after rowWidth numbers none rows before (wide rows before sound) i (subst (λ k. i < k) (sym long) h)
+      ∙ ap numbers (row-made i h)
+
+  pub row-held : (i : ℕ) → i < n → rowAt after i ≡ nextRow c (rowsUpTo c i)
+  row-held i h = ap (λ t. rowAt t i) (w .left) ∙ rowAt-tableAfter rows before sound i (subst (λ k. i < k) (sym long) h) ∙ row-made i h
+
+  pub range-held : (i : ℕ) → i < n → rangeAt afterRanges i ≡ ownRange c i (nextRow c (rowsUpTo c i))
+  range-held i h =
+      ap (λ t. rangeAt t i) (w .told) ∙ rangeAt-rangesAfter own beforeRanges i (subst (λ k. i < k) (sym long-own) h)
+      ∙ own-at c rows noRange i (subst (λ k. i < k) (sym long) h) ∙ ap (ownRange c i) (row-made i h)
+
+  pub ranges-of : Passed c → rangeWidth * n ≤ length beforeRanges → RangesOf after afterRanges n
+  ranges-of passed h =
+      record {
+        room = omega (arith, length-ranges-kept h);
+        apart = λ i l. subst (λ r. ApartOutweighs (rangeAt afterRanges i) r) (sym (row-held i l))
+            (subst (λ r. ApartOutweighs r (nextRow c (rowsUpTo c i))) (sym (range-held i l)) (outweighs i l));
+      }
+    where
+      outweighs : (i : ℕ) → i < n → ApartOutweighs (ownRange c i (nextRow c (rowsUpTo c i))) (nextRow c (rowsUpTo c i))
+      outweighs i l =
+          subst (λ k. ApartOutweighs (ownRange c k (nextRow c (rowsUpTo c i))) (nextRow c (rowsUpTo c i))) (length-grown (nextRow c) i)
+          (own-outweighs c (rowsUpTo c i) passed (went c n (w .none-refused) .each i l))
+
+  pub ranges-ordered : Passed c → rangeWidth * n ≤ length beforeRanges → RangesOrdered afterRanges n
+  ranges-ordered passed h =
+      record {
+        room = omega (arith, length-ranges-kept h);
+        ordered = λ i l. subst (λ (r : Range). r .low ≤ℤ r .high) (sym (range-held i l)) (own-ordered c passed i (nextRow c (rowsUpTo c i)));
+      }
+
   -- the answer of the next row, from the rows that the table holds
   module _ {a : Answer} (answer : a ≡ rowAnswer c (rowsIn after n)) where
     next : worked c (suc n) ≡ withAnswer rows a
     next = worked-more c n (w .none-refused) ∙ ap (withAnswer rows) (sym (answer ∙ ap (rowAnswer c) rows-read))
 
-    pub worked-on : {table : List ℤ} → number (a .status) ≡ 0 → table ≡ paste after (rowWidth * n) (numbers (a .row)) rowWidth → WorkedInto c (n + 1) before table
-    worked-on {table} e put =
+    -- its range is the row's own
+    answer-own : number (a .status) ≡ 0 → a .range ≡ ownRange c (length rows) (a .row)
+    answer-own e =
+        let is : a ≡ rowAnswer c rows = answer ∙ ap (rowAnswer c) rows-read in
+        let status : rowAnswer c rows .status ≡ Accepted = ap (λ b. b .status) (sym is) ∙ number-zero (a .status) e in
+        ap (λ b. b .range) is ∙ answer-range c rows status ∙ ap (λ b. ownRange c (length rows) (b .row)) (sym is)
+
+    pub worked-on : {table ranges : List ℤ} → number (a .status) ≡ 0 → table ≡ paste after (rowWidth * n) (numbers (a .row)) rowWidth
+        → ranges ≡ paste afterRanges (rangeWidth * n) (rangeNumbers (a .range)) rangeWidth → WorkedInto c (n + 1) before table beforeRanges ranges
+    worked-on {table} {ranges} e put put-range =
         let q : worked c (suc n) ≡ onward (rows ++ (a .row ∷ [])) = next ∙ withAnswer-accepted rows a e in
         let s : Shaped (a .row) = subst (λ b. Shaped (b .row)) (sym answer) (row-sound c (rowsIn after n) .shaped) in
-        subst (λ k. WorkedInto c k before table) (sym (add-one n))
+        subst (λ k. WorkedInto c k before table beforeRanges ranges) (sym (add-one n))
         (record {
           none-refused = ap (λ v. v .refusal .number) q;
           left =
@@ -162,6 +215,13 @@ module _ {c : Schedule} {n : ℕ} {before after : List ℤ} (w : WorkedInto c n 
               ∙ ap₂ (λ t k. paste t (rowWidth * k) (numbers (a .row)) rowWidth) (w .left) (sym long)
               ∙ sym (tableAfter-more rows before sound (a .row) s)
               ∙ ap (λ v. tableAfter (v .rows) before) (sym q);
+          told =
+              put-range
+              ∙ ap₂ (λ t k. paste t (rangeWidth * k) (rangeNumbers (a .range)) rangeWidth) (w .told) (sym long-own)
+              ∙ sym (rangesAfter-more own beforeRanges (a .range))
+              ∙ ap (λ r. rangesAfter (own ++ (r ∷ [])) beforeRanges) (answer-own e)
+              ∙ ap (λ l. rangesAfter l beforeRanges) (sym (own-more c rows (a .row)))
+              ∙ ap (λ v. rangesAfter (answeredRanges c (v .rows)) beforeRanges) (sym q);
         })
 
     -- a refusal ends the work, however many rows were to come

@@ -1,19 +1,21 @@
--- Asking about the rows of a lent table: a range, a comparison, a part of the table. "Asking about rows: 9, 8, 6, the lower row first"
+-- Asking about the rows of lent tables: a range, a comparison, a part of the table. "Asking about rows: 9, 8, 6, the lower row first"
 use mathlib.Core.Bool.{Bool, false}
 use mathlib.Core.List.{List, []}
 use Prim.Native.Nat.{ℕ, _-_, _*_, min, max}
 use lib.Dec.{eqb, leb}
 use lib.IntN.{ℤ, pos}
 use lib.ListN.{length}
+use lib.Signed.{leZ}
 use Rattle.affine.specs.declared.Row.{Row}
+use Rattle.affine.specs.declared.Range.{Range}
 use Rattle.affine.specs.Limits.{symbols}
 use Rattle.affine.specs.Lists.{pick}
-use Rattle.affine.specs.Row.{withinSpan, low, high, same}
+use Rattle.affine.specs.Row.{withinSpan, same}
 use Rattle.sheet.specs.declared.Refusal.{Refusal}
 use Rattle.sheet.specs.Causes.{refusal, accepted}
 use Rattle.evaluation.specs.declared.RangeAnswer.{RangeAnswer}
 use Rattle.evaluation.specs.declared.SameAnswer.{SameAnswer}
-use Rattle.evaluation.specs.Table.{rowWidth, rowPart, rowAt}
+use Rattle.evaluation.specs.Table.{rowWidth, rangeWidth, rowPart, rowAt, rangeAt}
 use Rattle.evaluation.specs.Work.{tableTooShort}
 
 -- a row asked for is 0 or above the count given, or the count is above 30 | 9 | place 0
@@ -41,18 +43,31 @@ orElse r s = pick (eqb (r .number) 0) s r
 unfoldable pub rowRefusal : List ℤ → ℕ → ℕ → Refusal
 rowRefusal table count row = orElse (tableRefusal table count (isRow count row)) (lentRow table row)
 
+-- "a range is read there, with both tables lent": 8, of the second table ..
+abbrev pub rangesRefusal : List ℤ → ℕ → Refusal
+rangesRefusal ranges count = pick (leb (rangeWidth * count) (length ranges)) accepted tableTooShort
+
+-- .. and "a low above its high gives 6"
+abbrev pub lentRange : List ℤ → ℕ → Refusal
+lentRange ranges row = pick (leZ (rangeAt ranges (row - 1) .low) (rangeAt ranges (row - 1) .high)) accepted (refusal 6 row)
+
+unfoldable pub rangeRefusal : List ℤ → List ℤ → ℕ → ℕ → Refusal
+rangeRefusal table ranges count row =
+    orElse (tableRefusal table count (isRow count row))
+    (orElse (rangesRefusal ranges count) (orElse (lentRow table row) (lentRange ranges row)))
+
 -- "tells a row's range"; "beside a refusal every other answer is 0"
-abbrev pub rangeTold : Row → RangeAnswer
-rangeTold r = record { refusal = accepted; low = low r; high = high r }
+abbrev pub rangeTold : Range → RangeAnswer
+rangeTold r = record { refusal = accepted; low = r .low; high = r .high }
 
 abbrev pub rangeRefused : Refusal → RangeAnswer
 rangeRefused r = record { refusal = r; low = pos 0; high = pos 0 }
 
-unfoldable pub rangeOf : List ℤ → ℕ → ℕ → RangeAnswer
-rangeOf table count row =
-    pick (eqb (rowRefusal table count row .number) 0)
-    (rangeTold (rowAt table (row - 1)))
-    (rangeRefused (rowRefusal table count row))
+unfoldable pub rangeOf : List ℤ → List ℤ → ℕ → ℕ → RangeAnswer
+rangeOf table ranges count row =
+    pick (eqb (rangeRefusal table ranges count row .number) 0)
+    (rangeTold (rangeAt ranges (row - 1)))
+    (rangeRefused (rangeRefusal table ranges count row))
 
 -- "the lower row first"
 unfoldable pub rowsRefusal : List ℤ → ℕ → ℕ → ℕ → Refusal

@@ -9,10 +9,10 @@ use Rattle.affine.specs.declared.Row.{Row}
 use Rattle.affine.specs.Limits.{unit}
 use Rattle.affine.specs.Lists.{pick, at, equal}
 use Rattle.affine.specs.Form.{formValue}
-use Rattle.affine.specs.Steps.{constantRow}
 use Rattle.sheet.specs.declared.Step.{Step}
 use Rattle.sheet.specs.declared.Schedule.{Schedule}
 use Rattle.sheet.specs.Lines.{natural, stepAt}
+use Rattle.evaluation.specs.Work.{rowOf}
 
 -- "in fractions, a whole number meaning itself over 4096"
 abbrev pub inUnits : ℤ → Fraction
@@ -57,10 +57,7 @@ exactValues c x (suc n) = exactValues c x n ++ (exactRow c x (exactValues c x n)
 abbrev pub exactValue : Schedule → (ℕ → Fraction) → ℕ → Fraction
 exactValue c x i = exactRow c x (exactValues c x i)
 
--- the row with index i, and its own coefficient: that of its own symbol
-abbrev pub rowOf : List Row → ℕ → Row
-rowOf rows i = getD rows i (constantRow (pos 0))
-
+-- the own coefficient of the row with index i: that of its own symbol
 abbrev pub ownOf : List Row → ℕ → ℤ
 ownOf rows i = at (rowOf rows i .linear) i
 

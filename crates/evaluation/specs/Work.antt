@@ -1,14 +1,17 @@
--- Evaluation without a table: the rows of a schedule one after another, each worked from those before it, up to the last or to a refusal; and
--- what the lent table then holds.
+-- Evaluation without tables: the rows of a schedule one after another, each worked from those before it, up to the last or to a refusal; their
+-- ranges; and what the lent tables then hold.
+use mathlib.Core.Bool.{Bool, false}
 use mathlib.Core.List.{List, [], _∷_, _++_}
 use Prim.Native.Nat.{ℕ, zero, suc, _+_, _-_, _*_}
 use lib.Dec.{eqb, leb, ltb}
 use lib.IntN.{ℤ, pos}
 use lib.ListN.{length, getD}
 use Rattle.affine.specs.declared.Row.{Row}
+use Rattle.affine.specs.declared.Range.{Range}
 use Rattle.affine.specs.declared.Answer.{Answer}
-use Rattle.affine.specs.Lists.{pick}
-use Rattle.affine.specs.Steps.{constantRow, inputRow, addRows, subtractRows, checked, number}
+use Rattle.affine.specs.Lists.{pick, tabulate}
+use Rattle.affine.specs.Row.{formRange}
+use Rattle.affine.specs.Steps.{constantRow, addRows, subtractRows, checked, endsRange, inputAnswer, number}
 use Rattle.affine.specs.Product.{product}
 use Rattle.affine.specs.Reciprocal.{reciprocal}
 use Rattle.sheet.specs.declared.Step.{Step}
@@ -17,15 +20,34 @@ use Rattle.sheet.specs.declared.Refusal.{Refusal}
 use Rattle.sheet.specs.Causes.{refusal, accepted}
 use Rattle.sheet.specs.Lines.{natural, endsAt, stepAt}
 use Rattle.sheet.specs.Writing.{testOf}
-use Rattle.evaluation.specs.Table.{rowWidth}
+use Rattle.evaluation.specs.Table.{rowWidth, rangeWidth}
 
 -- "Rows are numbered from 1: inputs first, then steps."
 abbrev pub rowCount : Schedule → ℕ
 rowCount c = natural (c .inputs) + natural (c .steps)
 
--- the row that a step names, among the rows before the step
+-- the row with index i
+abbrev pub rowOf : List Row → ℕ → Row
+rowOf rows i = getD rows i (constantRow (pos 0))
+
+-- The own range of the row with index i: "an input row's range is its own low and high", and that of any other row the range of its form. It is the one
+-- that the row's answer tells (`proofs/OwnRanges.antt`).
+abbrev pub ownRange : Schedule → ℕ → Row → Range
+ownRange c i r = pick (ltb i (natural (c .inputs))) (endsRange (endsAt c i .low) (endsAt c i .high)) (formRange r)
+
+unfoldable pub ownRanges : Schedule → List Row → List Range
+ownRanges c rows = tabulate (length rows) (λ i. ownRange c i (rowOf rows i))
+
+-- The answered ranges of rows, which are told, printed and kept in the second table: their own.
+abbrev pub answeredRanges : Schedule → List Row → List Range
+answeredRanges c rows = ownRanges c rows
+
+-- the row that a step names, among the rows before the step, and its own range
 abbrev pub namedRow : List Row → ℤ → Row
-namedRow rows n = getD rows (natural n - 1) (constantRow (pos 0))
+namedRow rows n = rowOf rows (natural n - 1)
+
+abbrev pub namedRange : List Range → ℤ → Range
+namedRange ranges n = getD ranges (natural n - 1) (endsRange (pos 0) (pos 0))
 
 -- the codes that name two rows: "2 add, 3 subtract second from first, 4 multiply"
 unfoldable pub binaryAnswer : ℕ → ℕ → ℤ → Row → Row → Answer
@@ -33,18 +55,18 @@ binaryAnswer squares own code x y =
     pick (eqb (natural code) 2) (checked (addRows x y)) (pick (eqb (natural code) 3) (checked (subtractRows x y)) (product squares own x y))
 
 -- "Codes: 1 constant (value, ..)", "5 reciprocal of first", and those between. A step's row owns the symbol of its index.
-unfoldable pub stepAnswer : ℕ → List Row → Step → Answer
-stepAnswer squares rows t =
+unfoldable pub stepAnswer : ℕ → List Row → List Range → Step → Answer
+stepAnswer squares rows ranges t =
     pick (eqb (natural (t .code)) 1) (checked (constantRow (t .value)))
-    (pick (eqb (natural (t .code)) 5) (reciprocal squares (length rows) (namedRow rows (t .first)))
+    (pick (eqb (natural (t .code)) 5) (reciprocal squares (length rows) (namedRow rows (t .first)) (namedRange ranges (t .first)))
     (binaryAnswer squares (length rows) (t .code) (namedRow rows (t .first)) (namedRow rows (t .second))))
 
 -- what the row after the rows so far becomes: an input's row, or a step's
 unfoldable pub rowAnswer : Schedule → List Row → Answer
 rowAnswer c rows =
     pick (ltb (length rows) (natural (c .inputs)))
-    (checked (inputRow (length rows) (endsAt c (length rows) .low) (endsAt c (length rows) .high)))
-    (stepAnswer (natural (c .squares)) rows (stepAt c (length rows - natural (c .inputs))))
+    (inputAnswer (length rows) (endsAt c (length rows) .low) (endsAt c (length rows) .high))
+    (stepAnswer (natural (c .squares)) rows (ownRanges c rows) (stepAt c (length rows - natural (c .inputs))))
 
 -- the rows worked, and how the work ended
 pub record Worked : Type 0 where
@@ -73,9 +95,13 @@ worked c (suc n) = pick (eqb (worked c n .refusal .number) 0) (withAnswer (worke
 abbrev pub tableTooShort : Refusal
 tableTooShort = refusal 8 0
 
+-- both tables have room for so many rows
+abbrev pub tablesHold : ℕ → List ℤ → List ℤ → Bool
+tablesHold n table ranges = pick (leb (rowWidth * n) (length table)) (leb (rangeWidth * n) (length ranges)) false
+
 -- "A schedule handed to the writer or to evaluation is tested by 3, 4, 5 as its lines would stand, then 8"; "then row by row"
-unfoldable pub evaluated : Schedule → List ℤ → Worked
-evaluated c table =
+unfoldable pub evaluated : Schedule → List ℤ → List ℤ → Worked
+evaluated c table ranges =
     pick (eqb (testOf c .number) 0)
-    (pick (leb (rowWidth * rowCount c) (length table)) (worked c (rowCount c)) (stopped [] tableTooShort))
+    (pick (tablesHold (rowCount c) table ranges) (worked c (rowCount c)) (stopped [] tableTooShort))
     (stopped [] (testOf c))

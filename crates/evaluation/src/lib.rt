@@ -1,7 +1,7 @@
-// Evaluation of a schedule into a lent table, and what is asked about its rows (manual, sections 6 and 7).
+// Evaluation of a schedule into two lent tables, its rows and their ranges, and what is asked about them (manual, sections 6 and 7).
 mod asking; // asking.rt: refusals 9, 8 and 6 of a row asked for
 mod steps; // steps.rt: the row of a line of the sheet, from the rows before it
-pub mod table; // table.rt: rows read from a table of numbers, put into it and compared there
+pub mod table; // table.rt: rows and ranges read from tables of numbers, put into them, and rows compared there
 mod work; // work.rt: all rows, one after another
 
 use sheet::Refusal;
@@ -9,8 +9,8 @@ use sheet::Schedule;
 // How many rows a schedule has, for those who ask about them.
 pub use work::row_count;
 ghost use mathlib.Core.Path.{_≡_};
-ghost use Rattle.evaluation.specs.Table.{tableAfter};
-ghost use Rattle.evaluation.specs.Work.{evaluated};
+ghost use Rattle.evaluation.specs.Table.{tableAfter, rangesAfter};
+ghost use Rattle.evaluation.specs.Work.{answeredRanges, evaluated};
 ghost use Rattle.evaluation.specs.Asking.{rangeOf, sameOf, partOf};
 
 // What a range answers; 0 and 0 beside a refusal.
@@ -26,10 +26,12 @@ pub struct SameAnswer {
     pub same: bool,
 }
 
-// Evaluates a schedule into the lent table: any schedule, any table. After 6 or 7 the rows before the place are written, and no other number is.
-pub fn evaluate(schedule: Schedule, table: &mut [i64]) -> Refusal
-    ensures answer { λ r. ⌜ r ≡ evaluated schedule (now (table .entry)) .refusal ⌝ }
-    ensures left { λ r. ⌜ now (table .exit) ≡ tableAfter (evaluated schedule (now (table .entry)) .rows) (now (table .entry)) ⌝ }
+// Evaluates a schedule into the lent tables, the rows into the first and their answered ranges into the second: any schedule, any tables. After 6 or 7
+// the rows before the place are written in both, and no other number is.
+pub fn evaluate(schedule: Schedule, table: &mut [i64], ranges: &mut [i64]) -> Refusal
+    ensures answer { λ r. ⌜ r ≡ evaluated schedule (now (table .entry)) (now (ranges .entry)) .refusal ⌝ }
+    ensures left { λ r. ⌜ now (table .exit) ≡ tableAfter (evaluated schedule (now (table .entry)) (now (ranges .entry)) .rows) (now (table .entry)) ⌝ }
+    ensures told { λ r. ⌜ now (ranges .exit) ≡ rangesAfter (answeredRanges schedule (evaluated schedule (now (table .entry)) (now (ranges .entry)) .rows)) (now (ranges .entry)) ⌝ }
 {
     let tested = sheet::test(schedule);
     if tested.number != 0 {
@@ -42,14 +44,20 @@ pub fn evaluate(schedule: Schedule, table: &mut [i64]) -> Refusal
             place: 0,
         };
     }
-    work::work_rows(schedule, table, rows)
+    if ranges.len() < table::RANGE_WIDTH * rows {
+        return Refusal {
+            number: 8,
+            place: 0,
+        };
+    }
+    work::work_rows(schedule, table, ranges, rows)
 }
 
-// The range of a row of a table that holds so many rows.
-pub fn range(table: &[i64], count: usize, row: usize) -> RangeAnswer
-    ensures { λ r. ⌜ r ≡ rangeOf (now (table .entry)) count row ⌝ }
+// The range of a row, from tables that hold so many rows and their ranges.
+pub fn range(table: &[i64], ranges: &[i64], count: usize, row: usize) -> RangeAnswer
+    ensures { λ r. ⌜ r ≡ rangeOf (now (table .entry)) (now (ranges .entry)) count row ⌝ }
 {
-    let refusal = asking::row_refusal(table, count, row);
+    let refusal = asking::range_refusal(table, ranges, count, row);
     if refusal.number != 0 {
         return RangeAnswer {
             refusal,
@@ -57,8 +65,7 @@ pub fn range(table: &[i64], count: usize, row: usize) -> RangeAnswer
             high: 0,
         };
     }
-    let r = table::get_row(table, row - 1);
-    let a = affine::range::range_of(r);
+    let a = table::get_range(ranges, row - 1);
     RangeAnswer {
         refusal,
         low: a.low,

@@ -1,4 +1,5 @@
-// The row of a line of the sheet, made from the rows before it, which stand in a table.
+// The row of a line of the sheet, made from the rows before it, which stand in a table, and their ranges, which stand in the second.
+use crate::table::get_range;
 use crate::table::get_row;
 use affine::Answer;
 use sheet::Step;
@@ -6,7 +7,7 @@ ghost use mathlib.Core.Path.{_≡_};
 ghost use Prim.Native.Nat.{_<_, _≤_};
 ghost use Rattle.affine.specs.Limits.{symbols, paired};
 ghost use Rattle.sheet.proofs.Passing.{StepPassed};
-ghost use Rattle.evaluation.specs.Table.{rowAt, rowsIn, RowsWithin};
+ghost use Rattle.evaluation.specs.Table.{rowAt, rowsIn, rangesIn, RowsWithin, RangesOf};
 ghost use Rattle.evaluation.specs.Work.{binaryAnswer, stepAnswer};
 
 // Codes 2 to 4: a sum, a difference or a product of two rows of the table. Each branch reads the rows itself: read once for all three they
@@ -39,10 +40,10 @@ fn binary_answer(
 }
 
 // The row of a step that owns the symbol at index own.
-pub fn step_answer(table: &[i64], t: Step, squares: usize, own: usize) -> Answer
+pub fn step_answer(table: &[i64], ranges: &[i64], t: Step, squares: usize, own: usize) -> Answer
     requires { ⌜ (squares ≤ paired) × (own < symbols) × StepPassed own (t .code) (t .first) (t .second) (t .value) ⌝ }
-    requires { ⌜ RowsWithin (now table) own ⌝ }
-    ensures { λ r. ⌜ r ≡ stepAnswer squares (rowsIn (now (table .entry)) own) t ⌝ }
+    requires { ⌜ RowsWithin (now table) own × RangesOf (now table) (now ranges) own ⌝ }
+    ensures { λ r. ⌜ r ≡ stepAnswer squares (rowsIn (now (table .entry)) own) (rangesIn (now (ranges .entry)) own) t ⌝ }
 {
     let code = t.code;
     if code == 1 {
@@ -50,8 +51,9 @@ pub fn step_answer(table: &[i64], t: Step, squares: usize, own: usize) -> Answer
     }
     let first = t.first as usize;
     if code == 5 {
+        let range = get_range(ranges, first - 1);
         let x = get_row(table, first - 1);
-        return affine::reciprocal::invert(x, squares, own);
+        return affine::reciprocal::invert(x, range, squares, own);
     }
     let second = t.second as usize;
     binary_answer(table, code, first - 1, second - 1, squares, own)

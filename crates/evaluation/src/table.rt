@@ -1,4 +1,5 @@
-// Rows in a table of numbers: row k, counted from 0, has the ROW_WIDTH numbers from ROW_WIDTH * k on.
+// Rows in a table of numbers: row k, counted from 0, has the ROW_WIDTH numbers from ROW_WIDTH * k on. Their ranges in a second one, in the same way.
+use affine::Range;
 use affine::Row;
 use affine::limits::PAIRS;
 use affine::limits::SYMBOLS;
@@ -7,9 +8,11 @@ ghost use Prim.Native.Nat.{_+_, _*_, _≤_};
 ghost use lib.ListN.{length};
 ghost use lib.Seq.{paste};
 ghost use Rattle.affine.specs.Row.{numbers, same};
-ghost use Rattle.evaluation.specs.Table.{rowAt, rowPart, rowWidth};
+ghost use Rattle.evaluation.specs.Table.{rowAt, rowPart, rowWidth, rangeAt, rangeNumbers, rangeWidth};
 
 pub const ROW_WIDTH: usize = 1 + SYMBOLS + PAIRS;
+
+pub const RANGE_WIDTH: usize = 2;
 
 // The numbers of src, put into dst from an index on.
 fn put_numbers(dst: &mut [i64], at: usize, src: &[i64])
@@ -53,6 +56,28 @@ pub fn put_row(table: &mut [i64], k: usize, r: Row)
     table[base] = c;
     put_numbers(&mut *table, base + 1, &l);
     put_numbers(&mut *table, base + 1 + SYMBOLS, &p);
+}
+
+// The range of row k, from the second table.
+pub fn get_range(ranges: &[i64], k: usize) -> Range
+    requires { ⌜ rangeWidth * k + rangeWidth ≤ length (now ranges) ⌝ }
+    ensures { λ r. ⌜ r ≡ rangeAt (now (ranges .entry)) k ⌝ }
+{
+    let base = RANGE_WIDTH * k;
+    let low = ranges[base];
+    let high = ranges[base + 1];
+    Range { low, high }
+}
+
+pub fn put_range(ranges: &mut [i64], k: usize, r: Range)
+    requires { ⌜ rangeWidth * k + rangeWidth ≤ length (now ranges) ⌝ }
+    ensures { λ u. ⌜ now (ranges .exit) ≡ paste (now (ranges .entry)) (rangeWidth * k) (rangeNumbers r) rangeWidth ⌝ }
+{
+    let front = RANGE_WIDTH * k;
+    let low = r.low;
+    let high = r.high;
+    ranges[front] = low;
+    ranges[front + 1] = high;
 }
 
 // The part of the table that holds row k.

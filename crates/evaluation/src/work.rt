@@ -1,5 +1,6 @@
-// All rows of a schedule, one after another, into a table.
+// All rows of a schedule, one after another, into a table, and their ranges into a second one.
 use crate::steps::step_answer;
+use crate::table::put_range;
 use crate::table::put_row;
 use affine::Status;
 use sheet::Refusal;
@@ -9,8 +10,8 @@ ghost use Prim.Native.Nat.{_*_, _≤_};
 ghost use lib.ListN.{length};
 ghost use Rattle.affine.specs.Steps.{number};
 ghost use Rattle.sheet.proofs.Passed.{Passed};
-ghost use Rattle.evaluation.specs.Table.{rowWidth, tableAfter};
-ghost use Rattle.evaluation.specs.Work.{rowCount, worked};
+ghost use Rattle.evaluation.specs.Table.{rowWidth, rangeWidth, tableAfter, rangesAfter};
+ghost use Rattle.evaluation.specs.Work.{rowCount, answeredRanges, worked};
 
 // The cause that an answer stands for (manual, section 6), or 0.
 fn status_number(s: Status) -> u64
@@ -30,10 +31,12 @@ pub fn row_count(c: Schedule) -> usize
     sheet::natural(c.inputs) + sheet::natural(c.steps)
 }
 
-pub fn work_rows(c: Schedule, table: &mut [i64], rows: usize) -> Refusal
-    requires { ⌜ Passed c × (rows ≡ rowCount c) × (rowWidth * rows ≤ length (now table)) ⌝ }
+pub fn work_rows(c: Schedule, table: &mut [i64], ranges: &mut [i64], rows: usize) -> Refusal
+    requires { ⌜ Passed c × (rows ≡ rowCount c) ⌝ }
+    requires { ⌜ (rowWidth * rows ≤ length (now table)) × (rangeWidth * rows ≤ length (now ranges)) ⌝ }
     ensures answer { λ r. ⌜ r ≡ worked c rows .refusal ⌝ }
     ensures left { λ r. ⌜ now (table .exit) ≡ tableAfter (worked c rows .rows) (now (table .entry)) ⌝ }
+    ensures told { λ r. ⌜ now (ranges .exit) ≡ rangesAfter (answeredRanges c (worked c rows .rows)) (now (ranges .entry)) ⌝ }
 {
     let inputs = c.inputs as usize;
     let squares = c.squares as usize;
@@ -45,7 +48,7 @@ pub fn work_rows(c: Schedule, table: &mut [i64], rows: usize) -> Refusal
             affine::steps::input(i, e.low, e.high)
         } else {
             let t = c.step[i - inputs];
-            step_answer(&*table, t, squares, i)
+            step_answer(&*table, &*ranges, t, squares, i)
         };
         let status = a.status;
         let number = status_number(status);
@@ -53,6 +56,8 @@ pub fn work_rows(c: Schedule, table: &mut [i64], rows: usize) -> Refusal
             let place = i + 1;
             return Refusal { number, place };
         }
+        let range = a.range;
+        put_range(&mut *ranges, i, range);
         let r = a.row;
         put_row(&mut *table, i, r);
         i += 1;

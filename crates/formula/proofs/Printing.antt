@@ -6,7 +6,6 @@ use native.Mathlib.Nat.{zero-add}
 use native.Mathlib.Omega.{arith}
 use borrow.Author.Tests.{eq-eqb, ne-eqb}
 use lib.ListN.{length, take}
-use Rattle.sheet.specs.Limits.{maxBytes}
 use Rattle.sheet.specs.Writing.{testOf, sheetText, Written}
 use Rattle.sheet.specs.Wrote.{Wrote}
 use Rattle.sheet.specs.declared.ReadAnswer.{ReadAnswer}

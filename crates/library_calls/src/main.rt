@@ -14,11 +14,13 @@ use sheet::Schedule;
 use sheet::Step;
 use sheet::WriteAnswer;
 ghost use mathlib.Core.Path.{_≡_};
-ghost use Prim.Native.Nat.{_≤_};
+ghost use Prim.Native.Nat.{_≤_, _<_};
 ghost use lib.ListN.{length};
 
 // The most numbers and bytes that are lent.
 const TABLE_ROOM: usize = 1612;
+
+const RANGES_ROOM: usize = 70;
 
 const WRITE_ROOM: usize = 700;
 
@@ -28,15 +30,19 @@ const SHEET_ROOM: usize = 1100;
 
 const FORMULA_ROOM: usize = 700;
 
+// What stands in lent bytes before a call.
+const UNTOUCHED: u8 = b'?';
+
 const FIELD: usize = 17;
 
 const DIGITS: usize = 16;
 // 2 to the 63rd: an unsigned number from it on stands for a negative one.
 const FIRST_NEGATIVE: u64 = 9223372036854775808;
 
-// What is kept between calls, beside the table: how much of the table is lent, and the schedule.
+// What is kept between calls, beside the tables: how many numbers of each are lent, and the schedule.
 struct State {
-    length: usize,
+    numbers: usize,
+    ends: usize,
     schedule: Schedule,
     done: bool,
 }
@@ -184,17 +190,70 @@ fn print_refusal(refusal: Refusal) {
     print_unsigned(refusal.place as u64);
 }
 
+// The place behind the numbers that are equal to the one at a start and follow it.
+fn run_end(numbers: &[i64], start: usize) -> usize
+    requires { ⌜ start < length (now numbers) ⌝ }
+    ensures { λ r. ⌜ (start < r) × (r ≤ length (now (numbers .entry))) ⌝ }
+{
+    let z = numbers[start];
+    let mut end = start + 1;
+    while end < numbers.len() {
+        if numbers[end] != z {
+            return end;
+        }
+        end += 1;
+    }
+    end
+}
+
+// So many equal numbers as one.
+fn print_run(z: i64, count: usize) {
+    print_signed(z);
+    if count > 1 {
+        io::write_all(STDOUT_FILENO, b"x");
+        io::print_decimal(STDOUT_FILENO, count as u64);
+    }
+}
+
 fn print_numbers(numbers: &[i64]) {
-    for i in 0..numbers.len() {
+    let mut i: usize = 0;
+    while i < numbers.len() {
         let z = numbers[i];
-        print_signed(z);
+        let end = run_end(numbers, i);
+        print_run(z, end - i);
+        i = end;
     }
     print_line_end();
 }
 
-fn print_table(table: &[i64]) {
+fn print_tables(table: &[i64], ranges: &[i64]) {
     io::write_all(STDOUT_FILENO, b"table");
     print_numbers(table);
+    io::write_all(STDOUT_FILENO, b"ranges");
+    print_numbers(ranges);
+}
+
+// How many of the bytes stand before the untouched ones that end them.
+fn front_length(bytes: &[u8]) -> usize
+    ensures { λ r. ⌜ r ≤ length (now (bytes .entry)) ⌝ }
+{
+    let mut n = bytes.len();
+    while n > 0 {
+        if bytes[n - 1] != UNTOUCHED {
+            return n;
+        }
+        n -= 1;
+    }
+    0
+}
+
+fn print_bytes(bytes: &[u8]) {
+    let length = front_length(bytes);
+    io::write_all(STDOUT_FILENO, &bytes[0..length]);
+    print_line_end();
+    io::write_all(STDOUT_FILENO, b"left");
+    print_unsigned((bytes.len() - length) as u64);
+    print_line_end();
 }
 
 // The answer of a call that writes, and the bytes lent to it.
@@ -203,8 +262,7 @@ fn print_written(answer: WriteAnswer, bytes: &[u8]) {
     print_refusal(refusal);
     print_unsigned(answer.length as u64);
     print_line_end();
-    io::write_all(STDOUT_FILENO, bytes);
-    print_line_end();
+    print_bytes(bytes);
 }
 
 fn print_end(number: usize, end: End) {
@@ -260,12 +318,22 @@ fn print_read(answer: ReadAnswer) {
     print_schedule(schedule);
 }
 
-// ---- the calls, on the part of the table that is lent
+// ---- the calls, on the parts of the tables that are lent
 
 fn fill(table: &mut [i64], value: i64) {
     for i in 0..table.len() {
         table[i] = value;
     }
+}
+
+// Fills the front of a table that is lent from now on: its length.
+fn lend(fd: i32, table: &mut [i64]) -> usize
+    ensures { λ r. ⌜ r ≤ length (now (table .entry)) ⌝ }
+{
+    let length = next_at_most(fd, table.len());
+    let value = next_signed(fd);
+    fill(&mut table[0..length], value);
+    length
 }
 
 fn put(fd: i32, table: &mut [i64]) {
@@ -276,18 +344,18 @@ fn put(fd: i32, table: &mut [i64]) {
     }
 }
 
-fn evaluate(schedule: Schedule, table: &mut [i64]) {
-    let refusal = evaluation::evaluate(schedule, &mut *table);
+fn evaluate(schedule: Schedule, table: &mut [i64], ranges: &mut [i64]) {
+    let refusal = evaluation::evaluate(schedule, &mut *table, &mut *ranges);
     io::write_all(STDOUT_FILENO, b"evaluate");
     print_refusal(refusal);
     print_line_end();
-    print_table(&*table);
+    print_tables(&*table, &*ranges);
 }
 
-fn range(fd: i32, table: &[i64]) {
+fn range(fd: i32, table: &[i64], ranges: &[i64]) {
     let count = next_size(fd);
     let row = next_size(fd);
-    let answer = evaluation::range(table, count, row);
+    let answer = evaluation::range(table, ranges, count, row);
     let refusal = answer.refusal;
     io::write_all(STDOUT_FILENO, b"range");
     print_refusal(refusal);
@@ -327,28 +395,28 @@ fn write_front(fd: i32, schedule: Schedule, out: &mut [u8]) {
 }
 
 fn write_fresh(fd: i32, schedule: Schedule) {
-    let mut out = [b'?'; WRITE_ROOM];
+    let mut out = [UNTOUCHED; WRITE_ROOM];
     write_front(fd, schedule, &mut out);
 }
 
-fn list(sheet: &[u8], table: &mut [i64], text: &mut [u8]) {
-    let answer = listing::list(sheet, &mut *table, &mut *text);
+fn list(sheet: &[u8], table: &mut [i64], ranges: &mut [i64], text: &mut [u8]) {
+    let answer = listing::list(sheet, &mut *table, &mut *ranges, &mut *text);
     io::write_all(STDOUT_FILENO, b"list");
     print_written(answer, &*text);
-    print_table(&*table);
+    print_tables(&*table, &*ranges);
 }
 
-fn list_front(fd: i32, sheet: &mut [u8], table: &mut [i64], text: &mut [u8]) {
+fn list_front(fd: i32, sheet: &mut [u8], table: &mut [i64], ranges: &mut [i64], text: &mut [u8]) {
     let length = next_at_most(fd, sheet.len());
     let room = next_at_most(fd, text.len());
     next_bytes(fd, &mut sheet[0..length]);
-    list(&sheet[0..length], table, &mut text[0..room]);
+    list(&sheet[0..length], table, ranges, &mut text[0..room]);
 }
 
-fn list_fresh(fd: i32, table: &mut [i64]) {
+fn list_fresh(fd: i32, table: &mut [i64], ranges: &mut [i64]) {
     let mut sheet = [0u8; SHEET_ROOM];
-    let mut text = [b'?'; LIST_ROOM];
-    list_front(fd, &mut sheet, table, &mut text);
+    let mut text = [UNTOUCHED; LIST_ROOM];
+    list_front(fd, &mut sheet, table, ranges, &mut text);
 }
 
 fn formula(schedule: Schedule, text: &[u8]) {
@@ -374,72 +442,80 @@ fn formula_fresh(fd: i32, schedule: Schedule) {
     formula_front(fd, schedule, &mut text);
 }
 
-// Makes the call of a code on the part of the table that is lent.
-fn call(fd: i32, code: u64, schedule: Schedule, table: &mut [i64]) {
+// Makes the call of a code on the parts of the tables that are lent.
+fn call(fd: i32, code: u64, schedule: Schedule, table: &mut [i64], ranges: &mut [i64]) {
     match code {
         2 => put(fd, table),
-        4 => evaluate(schedule, table),
-        5 => range(fd, &*table),
+        4 => evaluate(schedule, table, ranges),
+        5 => range(fd, &*table, &*ranges),
         6 => row(fd, &*table),
         7 => same(fd, &*table),
         8 => write_fresh(fd, schedule),
-        9 => list_fresh(fd, table),
+        9 => list_fresh(fd, table, ranges),
         11 => formula_fresh(fd, schedule),
+        13 => put(fd, ranges),
         _ => {}
     }
 }
 
 // The state before the next call.
-fn going_on(length: usize, schedule: Schedule) -> State
-    ensures { λ r. ⌜ r .length ≡ length ⌝ }
+fn going_on(numbers: usize, ends: usize, schedule: Schedule) -> State
+    ensures { λ r. ⌜ (r .numbers ≡ numbers) × (r .ends ≡ ends) ⌝ }
 {
     State {
-        length,
+        numbers,
+        ends,
         schedule,
         done: false,
     }
 }
 
 // Makes the next call: the state after it.
-fn step(fd: i32, table: &mut [i64], state: State) -> State
-    requires { ⌜ state .length ≤ length (now table) ⌝ }
-    ensures { λ r. ⌜ r .length ≤ length (now (table .entry)) ⌝ }
+fn step(fd: i32, table: &mut [i64], ranges: &mut [i64], state: State) -> State
+    requires { ⌜ (state .numbers ≤ length (now table)) × (state .ends ≤ length (now ranges)) ⌝ }
+    ensures { λ r. ⌜ (r .numbers ≤ length (now (table .entry))) × (r .ends ≤ length (now (ranges .entry))) ⌝ }
 {
     let code = next(fd);
-    let length = state.length;
+    let numbers = state.numbers;
+    let ends = state.ends;
     let schedule = state.schedule;
     match code {
         0 => State {
-            length,
+            numbers,
+            ends,
             schedule,
             done: true,
         },
-        1 => {
-            let length = next_at_most(fd, table.len());
-            let value = next_signed(fd);
-            fill(&mut table[0..length], value);
-            going_on(length, schedule)
-        }
-        3 => going_on(length, next_schedule(fd)),
-        10 => going_on(length, next_inputs(fd, schedule)),
+        1 => going_on(lend(fd, table), ends, schedule),
+        3 => going_on(numbers, ends, next_schedule(fd)),
+        10 => going_on(numbers, ends, next_inputs(fd, schedule)),
+        12 => going_on(numbers, lend(fd, ranges), schedule),
         _ => {
-            call(fd, code, schedule, &mut table[0..length]);
-            going_on(length, schedule)
+            call(
+                fd,
+                code,
+                schedule,
+                &mut table[0..numbers],
+                &mut ranges[0..ends],
+            );
+            going_on(numbers, ends, schedule)
         }
     }
 }
 
 fn make_calls(fd: i32) {
     let mut table = [0i64; TABLE_ROOM];
+    let mut ranges = [0i64; RANGES_ROOM];
     let mut state = State {
-        length: 0,
+        numbers: 0,
+        ends: 0,
         schedule: sheet::zero_schedule(),
         done: false,
     };
     // A proved loop ends, and nothing says that a file does: no run uses these turns up.
     let mut turns = u64::MAX;
     while turns > 0 && !state.done {
-        state = step(fd, &mut table, state);
+        state = step(fd, &mut table, &mut ranges, state);
         turns -= 1;
     }
 }

@@ -1,4 +1,5 @@
--- What a table held before does not matter: evaluation puts the same rows into every table that has room for them, and a listing is made of these alone.
+-- What the tables held before does not matter: evaluation puts the same rows and ranges into all tables that have room for them, and a listing is made of
+-- these alone.
 use mathlib.Core.Path.{_≡_, sym, ap, _∙_}
 use mathlib.Core.List.{List, _++_}
 use Prim.Native.Nat.{ℕ, _≤_}
@@ -15,49 +16,59 @@ use Rattle.sheet.proofs.Passed.{passed}
 use Rattle.sheet.proofs.Texts.{texts-cong}
 use Rattle.evaluation.specs.Work.{rowCount, evaluated}
 use Rattle.evaluation.proofs.EvaluationEnds.{ends-tested, ends-worked}
-use Rattle.evaluation.proofs.Made.{rows-few}
-use Rattle.evaluation.proofs.AcceptedEvaluation.{rows-left-few, rows-left-within, part-left}
-use Rattle.listing.specs.Listing.{columnNames, listing, refusalText, tableLeft, scheduleText, textOf, tableNumbers}
+use Rattle.evaluation.proofs.RowLines.{rows-few}
+use Rattle.evaluation.proofs.AcceptedEvaluation.{rows-left-few, rows-left-within, ranges-left-ordered, worked-left}
+use Rattle.evaluation.proofs.WorkedTable.{part-held, range-held}
+use Rattle.listing.specs.Listing.{columnNames, listing, refusalText, tableLeft, rangesLeft, scheduleText, textOf, tableNumbers, rangesNumbers}
 use Rattle.listing.specs.Held.{RowsHeld}
 use Rattle.listing.specs.Claims.{AnyTable}
 use Rattle.listing.proofs.SameParts.{rows-agree}
 use Rattle.listing.proofs.TextCases.{schedule-listed, schedule-refused}
 
-module _ (t u : List ℤ) (long : tableNumbers ≤ length t) (long′ : tableNumbers ≤ length u) where
+-- two pairs of tables, t with r and u with s
+module _ (t r u s : List ℤ) (long : tableNumbers ≤ length t) (long-r : rangesNumbers ≤ length r) (long-u : tableNumbers ≤ length u) (long-s : rangesNumbers ≤ length s) where
   module _ (c : Schedule) where
-    evaluated-alike : evaluated c t ≡ evaluated c u
+    evaluated-alike : evaluated c t r ≡ evaluated c u s
     evaluated-alike = by-test (ℕ-discrete (testOf c .number) 0)
       where
-        by-test : Dec (testOf c .number ≡ 0) → evaluated c t ≡ evaluated c u
-        by-test (no z) = ends-tested c t z ∙ sym (ends-tested c u z)
-        by-test (yes z) = let few = rows-few c (passed c z) in ends-worked c t z (omega arith) ∙ sym (ends-worked c u z (omega arith))
+        by-test : Dec (testOf c .number ≡ 0) → evaluated c t r ≡ evaluated c u s
+        by-test (no z) = ends-tested c t r z ∙ sym (ends-tested c u s z)
+        by-test (yes z) =
+            let few = rows-few c (passed c z) in
+            ends-worked c t r z (omega arith) (omega arith) ∙ sym (ends-worked c u s z (omega arith) (omega arith))
 
-    listing-alike : evaluated c t .refusal .number ≡ 0 → evaluated c u .refusal .number ≡ 0
-        → listing (tableLeft c t) (rowCount c) ≡ listing (tableLeft c u) (rowCount c)
+    listing-alike : evaluated c t r .refusal .number ≡ 0 → evaluated c u s .refusal .number ≡ 0
+        → listing (tableLeft c t r) (rangesLeft c t r) (rowCount c) ≡ listing (tableLeft c u s) (rangesLeft c u s) (rowCount c)
     unfolding listing
     listing-alike e d =
-        let left : RowsHeld (tableLeft c t) (rowCount c) = record { few = rows-left-few c t e; within = rows-left-within c t e } in
-        let right : RowsHeld (tableLeft c u) (rowCount c) = record { few = rows-left-few c u d; within = rows-left-within c u d } in
+        let left : RowsHeld (tableLeft c t r) (rowCount c) = record { few = rows-left-few c t r e; within = rows-left-within c t r e } in
+        let right : RowsHeld (tableLeft c u s) (rowCount c) = record { few = rows-left-few c u s d; within = rows-left-within c u s d } in
+        let w = worked-left c t r e in
+        let v = worked-left c u s d in
         ap (λ l. columnNames ++ l)
-        (texts-cong (rowCount c) 1 (λ row l h. rows-agree left right (λ i k. part-left c t e i k ∙ sym (part-left c u d i k)) row l (omega arith)))
+        (texts-cong (rowCount c) 1
+        (λ row l h. rows-agree left right (λ i k. part-held w i k ∙ sym (part-held v i k))
+        (ranges-left-ordered c t r e) (ranges-left-ordered c u s d) (λ i k. range-held w i k ∙ sym (range-held v i k)) row l (omega arith)))
 
-    schedule-alike : scheduleText c t ≡ scheduleText c u
-    schedule-alike = by-test (ℕ-discrete (evaluated c t .refusal .number) 0)
+    schedule-alike : scheduleText c t r ≡ scheduleText c u s
+    schedule-alike = by-test (ℕ-discrete (evaluated c t r .refusal .number) 0)
       where
-        number-alike : evaluated c u .refusal .number ≡ evaluated c t .refusal .number
+        number-alike : evaluated c u s .refusal .number ≡ evaluated c t r .refusal .number
         number-alike = ap (λ w. w .refusal .number) (sym evaluated-alike)
 
-        by-test : Dec (evaluated c t .refusal .number ≡ 0) → scheduleText c t ≡ scheduleText c u
-        by-test (yes z) = schedule-listed c t z ∙ listing-alike z (number-alike ∙ z) ∙ sym (schedule-listed c u (number-alike ∙ z))
+        by-test : Dec (evaluated c t r .refusal .number ≡ 0) → scheduleText c t r ≡ scheduleText c u s
+        by-test (yes z) = schedule-listed c t r z ∙ listing-alike z (number-alike ∙ z) ∙ sym (schedule-listed c u s (number-alike ∙ z))
         by-test (no z) =
-            schedule-refused c t z
+            schedule-refused c t r z
             ∙ ap (λ w. refusalText (w .refusal)) evaluated-alike
-            ∙ sym (schedule-refused c u (λ e. z (sym number-alike ∙ e)))
+            ∙ sym (schedule-refused c u s (λ e. z (sym number-alike ∙ e)))
 
-  text-alike : (sheet : List ℕ) → textOf sheet t ≡ textOf sheet u
+  text-alike : (sheet : List ℕ) → textOf sheet t r ≡ textOf sheet u s
   unfolding textOf
   text-alike sheet = ap (λ l. pick (eqb (readOf sheet .refusal .number) 0) l (refusalText (readOf sheet .refusal))) (schedule-alike (readOf sheet .schedule))
 
--- ANY TABLE: of every sheet and every table that holds thirty rows.
+-- ANY TABLE: of every sheet and all tables that hold thirty rows and their ranges.
 pub any-table : AnyTable
-any-table sheet table long = text-alike table (replicate tableNumbers (pos 0)) long (omega (arith, length-replicate tableNumbers (pos 0))) sheet
+any-table sheet table ranges long long-ranges =
+    text-alike table ranges (replicate tableNumbers (pos 0)) (replicate rangesNumbers (pos 0)) long long-ranges
+    (omega (arith, length-replicate tableNumbers (pos 0))) (omega (arith, length-replicate rangesNumbers (pos 0))) sheet

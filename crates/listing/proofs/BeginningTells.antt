@@ -25,7 +25,7 @@ read-of-beginning k enough s = by-length (lt-or-ge k (length s))
     by-length (inl h) = too-long (take k s) (rw (length-take-le k s (omega arith)) enough) ∙ sym (too-long s (omega arith))
     by-length (inr h) = ap readOf (take-all k s h)
 
--- BEGINNING TELLS: of every input and table.
+-- BEGINNING TELLS: of every input and tables.
 pub beginning-tells : BeginningTells
 unfolding textOf
-beginning-tells k enough s table = rw (read-of-beginning k enough s)
+beginning-tells k enough s table ranges = rw (read-of-beginning k enough s)

@@ -14,9 +14,9 @@ use Rattle.sheet.specs.Number.{run, judged, afterSign, fieldAt}
 use Rattle.sheet.specs.Reading.{readOf, readSheet, readLines, readAs, starts, fieldsFrom, fieldsAt}
 use Rattle.sheet.specs.Text.{decimal, numeral, line, texts}
 use Rattle.sheet.specs.Writing.{faultAt, testLines, testOf}
-use Rattle.evaluation.specs.Table.{allNumbers, tableAfter}
-use Rattle.evaluation.specs.Work.{binaryAnswer, stepAnswer, rowAnswer, withAnswer, worked, evaluated}
-use Rattle.evaluation.specs.Asking.{rowRefusal, rowsRefusal, rangeOf, sameOf, partOf}
+use Rattle.evaluation.specs.Table.{allNumbers, after}
+use Rattle.evaluation.specs.Work.{ownRanges, binaryAnswer, stepAnswer, rowAnswer, withAnswer, worked, evaluated}
+use Rattle.evaluation.specs.Asking.{rowRefusal, rangeRefusal, rowsRefusal, rangeOf, sameOf, partOf}
 use Rattle.listing.specs.Listing.{firstAmong, rowText, listing, refusalText, scheduleText, textOf, printed}
 
 -- (x + 1)² - 2x for x from -1/8 to 1/8
@@ -46,7 +46,7 @@ listingBytes =
     55 ∷ 32 ∷ 52 ∷ 48 ∷ 57 ∷ 54 ∷ 32 ∷ 52 ∷ 49 ∷ 54 ∷ 48 ∷ 32 ∷ 48 ∷ 32 ∷ 48 ∷ 10 ∷ []
 
 listing-printed : printed sheetBytes ≡ listingBytes
-unfolding sheetBytes listingBytes textOf scheduleText listing rowText refusalText firstAmong texts line numeral decimal readOf readSheet readLines readAs starts fieldsFrom fieldsAt run judged afterSign fieldAt store zeroSchedule evaluated worked withAnswer rowAnswer stepAnswer binaryAnswer testOf testLines faultAt lineOf numbers fault countsPass endsPass stepPasses allNumbers tableAfter rowRefusal rowsRefusal rangeOf sameOf partOf agree floorQuotient floorRemainder low high tabulate overPairs firsts seconds pairBelow pairAbove pairsBelow pairsAbove sum span linearTotals pairTotals radius squaredRadius dropped productOwn productRow
+unfolding sheetBytes listingBytes textOf scheduleText listing rowText refusalText firstAmong texts line numeral decimal readOf readSheet readLines readAs starts fieldsFrom fieldsAt run judged afterSign fieldAt store zeroSchedule evaluated worked withAnswer rowAnswer stepAnswer binaryAnswer testOf testLines faultAt lineOf numbers fault countsPass endsPass stepPasses ownRanges allNumbers after rowRefusal rangeRefusal rowsRefusal rangeOf sameOf partOf agree floorQuotient floorRemainder low high tabulate overPairs firsts seconds pairBelow pairAbove pairsBelow pairsAbove sum span linearTotals pairTotals radius squaredRadius dropped productOwn productRow
 listing-printed = refl
 
 -- no byte: the first line is missing

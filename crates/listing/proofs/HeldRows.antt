@@ -1,4 +1,5 @@
--- Rows of a table that are within the span limit: they are there to be read, and what the calls would answer of them is what the table holds.
+-- Rows of a table that are within the span limit, and ranges of which no low is above its high: they are there to be read, and what the calls would
+-- answer of them is what the tables hold.
 use mathlib.Core.Path.{_≡_, ap}
 use mathlib.Core.List.{List}
 use Prim.Native.Nat.{ℕ, _+_, _-_, _*_, _≤_, _<_}
@@ -8,7 +9,7 @@ use lib.ListN.{length}
 use Rattle.affine.specs.Limits.{spanLimit}
 use Rattle.affine.specs.Lists.{at}
 use Rattle.affine.specs.Row.{span, same}
-use Rattle.evaluation.specs.Table.{rowWidth, rowPart, rowAt}
+use Rattle.evaluation.specs.Table.{rowWidth, rowPart, rowAt, rangeAt, RangesOrdered}
 use Rattle.evaluation.specs.Asking.{rangeTold, rangeOf, sameOf}
 use Rattle.evaluation.proofs.AskingLaws.{range-told-of, part-told-of, same-told-of}
 use Rattle.listing.specs.Listing.{own}
@@ -21,8 +22,8 @@ module _ {table : List ℤ} {count row : ℕ} (h : RowHeld table count row) wher
   pub row-within : span (rowAt table (row - 1)) ≤ spanLimit
   row-within = h .rows .within .spans (row - 1) (omega (arith, h .from-one, h .up-to))
 
-  pub row-range : rangeOf table count row ≡ rangeTold (rowAt table (row - 1))
-  row-range = range-told-of table count (h .rows .few) (h .rows .within) row (h .from-one) (h .up-to)
+  pub row-range : {ranges : List ℤ} → RangesOrdered ranges count → rangeOf table ranges count row ≡ rangeTold (rangeAt ranges (row - 1))
+  row-range {ranges} ordered = range-told-of table count (h .rows .few) (h .rows .within) ranges ordered row (h .from-one) (h .up-to)
 
   pub row-own : own table count row ≡ at (rowPart table (row - 1)) row
   row-own = ap (λ (l : List ℤ). at l row) (part-told-of table count (h .rows .few) (h .rows .within) row (h .from-one) (h .up-to))

@@ -1,5 +1,5 @@
--- Every number that is printed reads back: none has more than ten digits, since a row's low, high and coefficients are at most its span, and the
--- numbers of a refusal are small.
+-- Every number that is printed reads back: none has more than ten digits, since the ends of an answered range are within the span limit, so are a row's
+-- coefficients, and the numbers of a refusal are small.
 use mathlib.Core.Path.{_≡_, subst}
 use mathlib.Core.Logic.{_⊎_, inl, inr}
 use mathlib.Core.List.{List}
@@ -11,13 +11,13 @@ use Rattle.affine.specs.Limits.{spanLimit}
 use Rattle.affine.specs.Lists.{at}
 use Rattle.affine.specs.Row.{span}
 use Rattle.affine.proofs.RowSize.{element-within}
-use Rattle.affine.proofs.RangeSize.{low-within, high-within}
 use Rattle.sheet.specs.Number.{digitOf}
 use Rattle.sheet.specs.declared.Refusal.{Refusal}
 use Rattle.sheet.proofs.Numeral.{field-complete}
 use Rattle.sheet.proofs.RefusalSize.{Small, lastPlace, read-small}
-use Rattle.evaluation.specs.Table.{rowPart, rowAt}
-use Rattle.evaluation.proofs.AcceptedEvaluation.{rows-left-few, rows-left-within}
+use Rattle.evaluation.specs.Table.{rowPart, rangeAt, RangesOrdered}
+use Rattle.evaluation.proofs.AcceptedEvaluation.{rows-left-few, rows-left-within, ranges-left-ordered, ranges-left-within}
+use Rattle.evaluation.proofs.OwnRanges.{RangeWithin}
 use Rattle.evaluation.proofs.RefusalRow.{evaluated-small}
 use Rattle.evaluation.proofs.RowParts.{numbers-rowAt}
 use Rattle.listing.specs.Listing.{own, rowNumbers}
@@ -35,30 +35,32 @@ short-reads-back z h s start end rest e d = field-complete s start end z rest (o
     no-digit (inr e) = rw e (omega arith)
 
 -- each number of the line of a row within the span limit is at most that limit
-module _ {table : List ℤ} {count row : ℕ} (h : RowHeld table count row) where
+module _ {table ranges : List ℤ} {count row : ℕ} (h : RowHeld table count row) (ordered : RangesOrdered ranges count) (short : RangeWithin spanLimit (rangeAt ranges (row - 1))) where
   own-short : natAbs (own table count row) ≤ spanLimit
   unfolding span
   own-short =
       rw (row-own h)
       (element-within (rowPart table (row - 1)) (subst (λ ns. sumAbs ns ≤ spanLimit) (numbers-rowAt table (row - 1) (row-room h)) (row-within h)) row)
 
-  number-short : (i : ℕ) → natAbs (at (rowNumbers table count row) i) ≤ spanLimit
+  number-short : (i : ℕ) → natAbs (at (rowNumbers table ranges count row) i) ≤ spanLimit
   number-short zero = omega (arith, h .up-to, h .rows .few)
-  number-short (suc zero) = rw (row-range h) (low-within (rowAt table (row - 1)) (row-within h))
-  number-short (suc (suc zero)) = rw (row-range h) (high-within (rowAt table (row - 1)) (row-within h))
+  number-short (suc zero) = rw (row-range h ordered) (short .low-in)
+  number-short (suc (suc zero)) = rw (row-range h ordered) (short .high-in)
   number-short (suc (suc (suc zero))) = own-short
   number-short (suc (suc (suc (suc zero)))) = omega (arith, first-small table count row (row - 1) 1, h .up-to, h .rows .few)
   number-short (suc (suc (suc (suc (suc i))))) = omega arith
 
--- LEGIBLE: of every schedule and table whose evaluation is accepted.
+-- LEGIBLE: of every schedule and tables whose evaluation is accepted.
 pub legible : Legible
-legible c table e row l h i =
+legible c table ranges e row l h i =
     short-reads-back _
-    (number-short (record { rows = record { few = rows-left-few c table e; within = rows-left-within c table e }; from-one = l; up-to = h }) i)
+    (number-short
+    (record { rows = record { few = rows-left-few c table ranges e; within = rows-left-within c table ranges e }; from-one = l; up-to = h })
+    (ranges-left-ordered c table ranges e) (ranges-left-within c table ranges e (row - 1) (omega arith)) i)
 
 small-reads-back : {r : Refusal} → Small lastPlace r → RefusalReadsBack r
 small-reads-back {r} s = (short-reads-back (pos (r .number)) (omega (arith, s .number-small)), short-reads-back (pos (r .place)) (omega (arith, s .place-small)))
 
 -- REFUSALS LEGIBLE: of all bytes, schedules and tables.
 pub refusals-legible : RefusalsLegible
-refusals-legible = (λ sheet. small-reads-back (read-small sheet), λ c table. small-reads-back (evaluated-small c table))
+refusals-legible = (λ sheet. small-reads-back (read-small sheet), λ c table ranges. small-reads-back (evaluated-small c table ranges))

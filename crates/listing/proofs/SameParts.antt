@@ -1,4 +1,4 @@
--- Two tables whose rows have the same parts have the same lines.
+-- Tables whose rows have the same parts, and the same ranges beside them, have the same lines.
 use mathlib.Core.Path.{_≡_, refl, sym, ap, ap₂, _∙_}
 use mathlib.Core.List.{List, [], _∷_}
 use Prim.Native.Nat.{ℕ, zero, suc, _+_, _-_, _≤_, _<_}
@@ -7,13 +7,14 @@ use lib.IntN.{ℤ, pos}
 use Rattle.affine.specs.Lists.{pick, at}
 use Rattle.affine.specs.Row.{same}
 use Rattle.sheet.specs.Text.{line}
-use Rattle.evaluation.specs.Table.{rowPart, rowOfNumbers}
+use Rattle.evaluation.specs.Table.{rowPart, rowOfNumbers, rangeAt, RangesOrdered}
 use Rattle.evaluation.specs.Asking.{rangeTold, rangeOf, sameOf}
 use Rattle.listing.specs.Listing.{own, firstAmong, rowNumbers, rowText}
 use Rattle.listing.specs.Held.{RowsHeld, RowHeld}
 use Rattle.listing.proofs.HeldRows.{row-range, row-own, earlier-same}
 
-module _ {t u : List ℤ} {count : ℕ} (left : RowsHeld t count) (right : RowsHeld u count) (parts : (i : ℕ) → i < count → rowPart t i ≡ rowPart u i) where
+module _ {t u r s : List ℤ} {count : ℕ} (left : RowsHeld t count) (right : RowsHeld u count) (parts : (i : ℕ) → i < count → rowPart t i ≡ rowPart u i)
+    (ordered : RangesOrdered r count) (ordered′ : RangesOrdered s count) (ranges : (i : ℕ) → i < count → rangeAt r i ≡ rangeAt s i) where
   module _ (row : ℕ) (from-one : 1 ≤ row) (up-to : row ≤ count) where
     held : RowHeld t count row
     held = record { rows = left; from-one = from-one; up-to = up-to }
@@ -24,8 +25,8 @@ module _ {t u : List ℤ} {count : ℕ} (left : RowsHeld t count) (right : RowsH
     part : rowPart t (row - 1) ≡ rowPart u (row - 1)
     part = parts (row - 1) (omega arith)
 
-    range-agrees : rangeOf t count row ≡ rangeOf u count row
-    range-agrees = row-range held ∙ ap (λ l. rangeTold (rowOfNumbers l)) part ∙ sym (row-range held′)
+    range-agrees : rangeOf t r count row ≡ rangeOf u s count row
+    range-agrees = row-range held ordered ∙ ap rangeTold (ranges (row - 1) (omega arith)) ∙ sym (row-range held′ ordered′)
 
     own-agrees : own t count row ≡ own u count row
     own-agrees = row-own held ∙ ap (λ l. at l row) part ∙ sym (row-own held′)
@@ -42,7 +43,7 @@ module _ {t u : List ℤ} {count : ℕ} (left : RowsHeld t count) (right : RowsH
     first-agrees (suc n) from h l =
         ap₂ (λ b k. pick b from k) (same-agrees from h (omega arith)) (first-agrees n (suc from) (omega arith) (omega arith))
 
-    numbers-agree : rowNumbers t count row ≡ rowNumbers u count row
+    numbers-agree : rowNumbers t r count row ≡ rowNumbers u s count row
     numbers-agree =
         λ i. pos row
         ∷ range-agrees i .low
@@ -51,6 +52,6 @@ module _ {t u : List ℤ} {count : ℕ} (left : RowsHeld t count) (right : RowsH
         ∷ pos (first-agrees (row - 1) 1 (omega arith) (omega arith) i)
         ∷ []
 
-    pub rows-agree : rowText t count row ≡ rowText u count row
+    pub rows-agree : rowText t r count row ≡ rowText u s count row
     unfolding rowText
     rows-agree = ap line numbers-agree

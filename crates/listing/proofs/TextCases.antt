@@ -13,47 +13,59 @@ use Rattle.sheet.specs.Reading.{readOf}
 use Rattle.sheet.specs.Writing.{notWritten}
 use Rattle.sheet.specs.Wrote.{Wrote}
 use Rattle.evaluation.specs.Work.{rowCount, evaluated}
-use Rattle.listing.specs.Listing.{listing, refusalText, tableLeft, scheduleText, textOf, tableOf}
+use Rattle.listing.specs.Listing.{listing, refusalText, tableLeft, rangesLeft, scheduleText, textOf, tableOf, rangesOf}
 use Rattle.listing.specs.Listed.{textRoom, Listed}
 
-module _ (c : Schedule) (table : List ℤ) where
-  pub schedule-listed : evaluated c table .refusal .number ≡ 0 → scheduleText c table ≡ listing (tableLeft c table) (rowCount c)
+module _ (c : Schedule) (table ranges : List ℤ) where
+  pub schedule-listed : evaluated c table ranges .refusal .number ≡ 0
+      → scheduleText c table ranges ≡ listing (tableLeft c table ranges) (rangesLeft c table ranges) (rowCount c)
   unfolding scheduleText
   schedule-listed e = rw (eq-eqb _ 0 e)
 
-  pub schedule-refused : (evaluated c table .refusal .number ≡ 0 → ⊥) → scheduleText c table ≡ refusalText (evaluated c table .refusal)
+  pub schedule-refused : (evaluated c table ranges .refusal .number ≡ 0 → ⊥) → scheduleText c table ranges ≡ refusalText (evaluated c table ranges .refusal)
   unfolding scheduleText
   schedule-refused e = rw (ne-eqb _ 0 e)
 
-module _ (sheet : List ℕ) (table : List ℤ) where
-  pub sheet-read : readOf sheet .refusal .number ≡ 0
-      → (textOf sheet table ≡ scheduleText (readOf sheet .schedule) table) × (tableOf sheet table ≡ tableLeft (readOf sheet .schedule) table)
-  unfolding textOf tableOf
-  sheet-read e = (rw (eq-eqb _ 0 e), rw (eq-eqb _ 0 e))
+-- the text of a sheet, and what it leaves of both tables
+pub record Ends (sheet : List ℕ) (table ranges : List ℤ) (text : List ℕ) (left leftRanges : List ℤ) : Type 0 where
+  pub text-is : textOf sheet table ranges ≡ text
+  pub table-is : tableOf sheet table ranges ≡ left
+  pub ranges-are : rangesOf sheet table ranges ≡ leftRanges
 
-  pub sheet-refused : (readOf sheet .refusal .number ≡ 0 → ⊥) → (textOf sheet table ≡ refusalText (readOf sheet .refusal)) × (tableOf sheet table ≡ table)
-  unfolding textOf tableOf
-  sheet-refused e = (rw (ne-eqb _ 0 e), rw (ne-eqb _ 0 e))
+module _ (sheet : List ℕ) (table ranges : List ℤ) where
+  pub sheet-read : readOf sheet .refusal .number ≡ 0
+      → let c = readOf sheet .schedule in Ends sheet table ranges (scheduleText c table ranges) (tableLeft c table ranges) (rangesLeft c table ranges)
+  unfolding textOf tableOf rangesOf
+  sheet-read e = record { text-is = rw (eq-eqb _ 0 e); table-is = rw (eq-eqb _ 0 e); ranges-are = rw (eq-eqb _ 0 e) }
+
+  pub sheet-refused : (readOf sheet .refusal .number ≡ 0 → ⊥) → Ends sheet table ranges (refusalText (readOf sheet .refusal)) table ranges
+  unfolding textOf tableOf rangesOf
+  sheet-refused e = record { text-is = rw (ne-eqb _ 0 e); table-is = rw (ne-eqb _ 0 e); ranges-are = rw (ne-eqb _ 0 e) }
 
 -- What the call leaves: nothing touched where there are too few bytes, and else the text, where it was written at the start.
-module _ (sheet : List ℕ) (table : List ℤ) (text : List ℕ) where
-  pub listed-short : length text < textRoom → Listed sheet table table text text (notWritten bytesTooShort)
+module _ (sheet : List ℕ) (table ranges : List ℤ) (text : List ℕ) where
+  pub listed-short : length text < textRoom → Listed sheet table table ranges ranges text text (notWritten bytesTooShort)
   listed-short h =
       let e = lt-ltb (length text) textRoom h in
-      record { answers = rw e; leaves-table = rw e; leaves-text = rw e }
+      record { answers = rw e; leaves-table = rw e; leaves-ranges = rw e; leaves-text = rw e }
 
-  pub listed-written : {tableAfterwards : List ℤ} {textAfterwards : List ℕ} {length′ : ℕ} → textRoom ≤ length text
-      → tableAfterwards ≡ tableOf sheet table → Wrote text textAfterwards 0 length′ (textOf sheet table)
-      → Listed sheet table tableAfterwards text textAfterwards (record { refusal = accepted; length = length′ })
-  listed-written h t w =
+  pub listed-written : {tableAfterwards rangesAfterwards : List ℤ} {textAfterwards wanted : List ℕ} {length′ : ℕ} → textRoom ≤ length text
+      → Ends sheet table ranges wanted tableAfterwards rangesAfterwards → Wrote text textAfterwards 0 length′ wanted
+      → Listed sheet table tableAfterwards ranges rangesAfterwards text textAfterwards (record { refusal = accepted; length = length′ })
+  listed-written {wanted = wanted} h ends w =
       let e = le-ltb (length text) textRoom h in
-      let n = w .ends ∙ zero-add (length (textOf sheet table)) in
-      record { answers = rw (e, n); leaves-table = rw e t; leaves-text = rw e (w .is) }
+      let n = w .ends ∙ zero-add (length wanted) in
+      record {
+        answers = rw (e, ends .text-is, n);
+        leaves-table = rw e (sym (ends .table-is));
+        leaves-ranges = rw e (sym (ends .ranges-are));
+        leaves-text = rw (e, ends .text-is) (w .is);
+      }
 
   -- where there is room, the text stands at the start of the bytes
-  pub listed-wrote : {tableAfterwards : List ℤ} {textAfterwards : List ℕ} {a : WriteAnswer} → textRoom ≤ length text
-      → Listed sheet table tableAfterwards text textAfterwards a → Wrote text textAfterwards 0 (a .length) (textOf sheet table)
+  pub listed-wrote : {tableAfterwards rangesAfterwards : List ℤ} {textAfterwards : List ℕ} {a : WriteAnswer} → textRoom ≤ length text
+      → Listed sheet table tableAfterwards ranges rangesAfterwards text textAfterwards a → Wrote text textAfterwards 0 (a .length) (textOf sheet table ranges)
   listed-wrote h l =
       let e = le-ltb (length text) textRoom h in
       let answers = rw e at (l .answers) in
-      record { ends = ap (λ (a : WriteAnswer). a .length) answers ∙ sym (zero-add (length (textOf sheet table))); is = rw e at (l .leaves-text) }
+      record { ends = ap (λ (a : WriteAnswer). a .length) answers ∙ sym (zero-add (length (textOf sheet table ranges))); is = rw e at (l .leaves-text) }

@@ -16,20 +16,21 @@ use Rattle.sheet.proofs.FieldLine.{line-short}
 use Rattle.sheet.proofs.Texts.{texts-width}
 use Rattle.evaluation.specs.Work.{rowCount, evaluated}
 use Rattle.evaluation.proofs.AcceptedEvaluation.{rows-left-few}
-use Rattle.listing.specs.Listing.{rowNumbers, rowText, columnNames, listing, refusalNames, refusalText, tableLeft, scheduleText, textOf}
+use Rattle.listing.specs.Listing.{rowNumbers, rowText, columnNames, listing, refusalNames, refusalText, tableLeft, rangesLeft, scheduleText, textOf}
 use Rattle.listing.specs.Listed.{textRoom}
 use Rattle.listing.specs.Claims.{TextFits}
 
-row-short : (table : List ℤ) (count row : ℕ) → length (rowText table count row) ≤ 60
-unfolding rowText
-row-short table count row = line-short (rowNumbers table count row)
+module _ (table ranges : List ℤ) (count : ℕ) where
+  row-short : (row : ℕ) → length (rowText table ranges count row) ≤ 60
+  unfolding rowText
+  row-short row = line-short (rowNumbers table ranges count row)
 
-pub rows-short : (table : List ℤ) (count : ℕ) → length (texts count 1 (rowText table count)) ≤ 60 * count
-rows-short table count = texts-width (rowText table count) 60 (row-short table count) count 1
+  pub rows-short : length (texts count 1 (rowText table ranges count)) ≤ 60 * count
+  rows-short = texts-width (rowText table ranges count) 60 row-short count 1
 
-listing-fits : (table : List ℤ) (count : ℕ) → count ≤ symbols → length (listing table count) ≤ textRoom
-unfolding listing
-listing-fits table count h = omega (arith, length-append columnNames (texts count 1 (rowText table count)), rows-short table count)
+  listing-fits : count ≤ symbols → length (listing table ranges count) ≤ textRoom
+  unfolding listing
+  listing-fits h = omega (arith, length-append columnNames (texts count 1 (rowText table ranges count)), rows-short)
 
 pub refusal-fits : (r : Refusal) → length (refusalText r) ≤ textRoom
 unfolding refusalText
@@ -37,17 +38,17 @@ refusal-fits r =
     let numbers : List ℤ = pos (r .number) ∷ pos (r .place) ∷ [] in
     omega (arith, length-append refusalNames (line numbers), line-short numbers)
 
-schedule-fits : (c : Schedule) (table : List ℤ) → length (scheduleText c table) ≤ textRoom
+schedule-fits : (c : Schedule) (table ranges : List ℤ) → length (scheduleText c table ranges) ≤ textRoom
 unfolding scheduleText
-schedule-fits c table =
-    pick-elim (λ (t : List ℕ). length t ≤ textRoom) (eqb (evaluated c table .refusal .number) 0) _ _
-    (λ e. listing-fits (tableLeft c table) (rowCount c) (rows-left-few c table (eqb-true _ _ e)))
-    (λ e. refusal-fits (evaluated c table .refusal))
+schedule-fits c table ranges =
+    pick-elim (λ (t : List ℕ). length t ≤ textRoom) (eqb (evaluated c table ranges .refusal .number) 0) _ _
+    (λ e. listing-fits (tableLeft c table ranges) (rangesLeft c table ranges) (rowCount c) (rows-left-few c table ranges (eqb-true _ _ e)))
+    (λ e. refusal-fits (evaluated c table ranges .refusal))
 
--- TEXT FITS: whatever the sheet's bytes and the table.
+-- TEXT FITS: whatever the sheet's bytes and the tables.
 pub text-fits : TextFits
 unfolding textOf
-text-fits sheet table =
+text-fits sheet table ranges =
     pick-elim (λ (t : List ℕ). length t ≤ textRoom) (eqb (readOf sheet .refusal .number) 0) _ _
-    (λ e. schedule-fits (readOf sheet .schedule) table)
+    (λ e. schedule-fits (readOf sheet .schedule) table ranges)
     (λ e. refusal-fits (readOf sheet .refusal))

@@ -9,8 +9,8 @@ use Rattle.sheet.specs.declared.Schedule.{Schedule}
 use Rattle.sheet.specs.declared.Refusal.{Refusal}
 use Rattle.sheet.specs.Text.{line, texts}
 use Rattle.sheet.specs.Reading.{readOf}
-use Rattle.evaluation.specs.Table.{tableAfter}
-use Rattle.evaluation.specs.Work.{rowCount, evaluated}
+use Rattle.evaluation.specs.Table.{tableAfter, rangesAfter}
+use Rattle.evaluation.specs.Work.{rowCount, answeredRanges, evaluated}
 use Rattle.evaluation.specs.Asking.{rangeOf, sameOf, partOf}
 
 -- "Own is the own coefficient": row r owns symbol r, whose coefficient stands behind the centre and the symbols before it
@@ -27,21 +27,21 @@ abbrev pub firstSame : List ℤ → ℕ → ℕ → ℕ
 firstSame table count row = firstAmong table count row 1 (row - 1)
 
 -- the numbers of a row's line, in the order of "row low high own same"
-abbrev pub rowNumbers : List ℤ → ℕ → ℕ → List ℤ
-rowNumbers table count row =
-    pos row ∷ rangeOf table count row .low ∷ rangeOf table count row .high ∷ own table count row ∷ pos (firstSame table count row) ∷ []
+abbrev pub rowNumbers : List ℤ → List ℤ → ℕ → ℕ → List ℤ
+rowNumbers table ranges count row =
+    pos row ∷ rangeOf table ranges count row .low ∷ rangeOf table ranges count row .high ∷ own table count row ∷ pos (firstSame table count row) ∷ []
 
 -- a row's line, with one space between its numbers and byte 10 at its end, as on a sheet
-unfoldable pub rowText : List ℤ → ℕ → ℕ → List ℕ
-rowText table count row = line (rowNumbers table count row)
+unfoldable pub rowText : List ℤ → List ℤ → ℕ → ℕ → List ℕ
+rowText table ranges count row = line (rowNumbers table ranges count row)
 
 -- "row low high own same", with byte 10
 abbrev pub columnNames : List ℕ
 columnNames = 114 ∷ 111 ∷ 119 ∷ 32 ∷ 108 ∷ 111 ∷ 119 ∷ 32 ∷ 104 ∷ 105 ∷ 103 ∷ 104 ∷ 32 ∷ 111 ∷ 119 ∷ 110 ∷ 32 ∷ 115 ∷ 97 ∷ 109 ∷ 101 ∷ 10 ∷ []
 
--- the listing of the rows that a table holds
-unfoldable pub listing : List ℤ → ℕ → List ℕ
-listing table count = columnNames ++ texts count 1 (rowText table count)
+-- the listing of the rows that the tables hold
+unfoldable pub listing : List ℤ → List ℤ → ℕ → List ℕ
+listing table ranges count = columnNames ++ texts count 1 (rowText table ranges count)
 
 -- "refused place", with byte 10
 abbrev pub refusalNames : List ℕ
@@ -51,26 +51,39 @@ refusalNames = 114 ∷ 101 ∷ 102 ∷ 117 ∷ 115 ∷ 101 ∷ 100 ∷ 32 ∷ 11
 unfoldable pub refusalText : Refusal → List ℕ
 refusalText r = refusalNames ++ line (pos (r .number) ∷ pos (r .place) ∷ [])
 
--- the table that evaluation leaves
-abbrev pub tableLeft : Schedule → List ℤ → List ℤ
-tableLeft c table = tableAfter (evaluated c table .rows) table
+-- the tables that evaluation leaves
+abbrev pub tableLeft : Schedule → List ℤ → List ℤ → List ℤ
+tableLeft c table ranges = tableAfter (evaluated c table ranges .rows) table
 
--- a schedule evaluated into a table: its listing, or its refusal
-unfoldable pub scheduleText : Schedule → List ℤ → List ℕ
-scheduleText c table =
-    pick (eqb (evaluated c table .refusal .number) 0) (listing (tableLeft c table) (rowCount c)) (refusalText (evaluated c table .refusal))
+abbrev pub rangesLeft : Schedule → List ℤ → List ℤ → List ℤ
+rangesLeft c table ranges = rangesAfter (answeredRanges c (evaluated c table ranges .rows)) ranges
 
--- the bytes of a sheet, read and evaluated into a table: the text, and the table left
-unfoldable pub textOf : List ℕ → List ℤ → List ℕ
-textOf sheet table = pick (eqb (readOf sheet .refusal .number) 0) (scheduleText (readOf sheet .schedule) table) (refusalText (readOf sheet .refusal))
+-- a schedule evaluated into the tables: its listing, or its refusal
+unfoldable pub scheduleText : Schedule → List ℤ → List ℤ → List ℕ
+scheduleText c table ranges =
+    pick (eqb (evaluated c table ranges .refusal .number) 0)
+    (listing (tableLeft c table ranges) (rangesLeft c table ranges) (rowCount c))
+    (refusalText (evaluated c table ranges .refusal))
 
-unfoldable pub tableOf : List ℕ → List ℤ → List ℤ
-tableOf sheet table = pick (eqb (readOf sheet .refusal .number) 0) (tableLeft (readOf sheet .schedule) table) table
+-- the bytes of a sheet, read and evaluated into the tables: the text, and both tables left
+unfoldable pub textOf : List ℕ → List ℤ → List ℤ → List ℕ
+textOf sheet table ranges =
+    pick (eqb (readOf sheet .refusal .number) 0) (scheduleText (readOf sheet .schedule) table ranges) (refusalText (readOf sheet .refusal))
+
+unfoldable pub tableOf : List ℕ → List ℤ → List ℤ → List ℤ
+tableOf sheet table ranges = pick (eqb (readOf sheet .refusal .number) 0) (tableLeft (readOf sheet .schedule) table ranges) table
+
+unfoldable pub rangesOf : List ℕ → List ℤ → List ℤ → List ℤ
+rangesOf sheet table ranges = pick (eqb (readOf sheet .refusal .number) 0) (rangesLeft (readOf sheet .schedule) table ranges) ranges
 
 -- "The program lends a table of 1,560 numbers, all zero at the start."
 abbrev pub tableNumbers : ℕ
 tableNumbers = 1560
 
+-- and a second one, of two numbers for each of 30 rows
+abbrev pub rangesNumbers : ℕ
+rangesNumbers = 60
+
 -- "It reads a sheet from standard input .. and it prints": what it prints for the bytes of an input
 abbrev pub printed : List ℕ → List ℕ
-printed input = textOf input (replicate tableNumbers (pos 0))
+printed input = textOf input (replicate tableNumbers (pos 0)) (replicate rangesNumbers (pos 0))

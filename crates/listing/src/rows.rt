@@ -1,6 +1,8 @@
-// The line of a row that an accepted evaluation left: such rows are within the span limit, so no number of theirs is looked at twice.
+// The line of a row that an accepted evaluation left: such rows are within the span limit and no low of theirs is above its high, so no number is
+// looked at twice.
 use evaluation::table;
 ghost use mathlib.Core.Path.{_≡_};
+ghost use Rattle.evaluation.specs.Table.{RangesOrdered};
 ghost use Rattle.listing.specs.Listing.{own, firstSame, rowNumbers};
 ghost use Rattle.listing.specs.Held.{RowHeld};
 
@@ -29,11 +31,11 @@ fn own_coefficient(table: &[i64], count: usize, row: usize) -> i64
 }
 
 // The numbers of a row's line.
-pub fn row_numbers(table: &[i64], count: usize, row: usize) -> [i64; 5]
-    requires { ⌜ RowHeld (now table) count row ⌝ }
-    ensures { λ r. ⌜ r ≡ rowNumbers (now (table .entry)) count row ⌝ }
+pub fn row_numbers(table: &[i64], ranges: &[i64], count: usize, row: usize) -> [i64; 5]
+    requires { ⌜ RowHeld (now table) count row × RangesOrdered (now ranges) count ⌝ }
+    ensures { λ r. ⌜ r ≡ rowNumbers (now (table .entry)) (now (ranges .entry)) count row ⌝ }
 {
-    let range = affine::range::range_of(table::get_row(table, row - 1));
+    let range = table::get_range(ranges, row - 1);
     let own = own_coefficient(table, count, row);
     let same = first_same(table, count, row);
     [row as i64, range.low, range.high, own, same as i64]

@@ -9,8 +9,10 @@ ghost use Rattle.ranges.specs.Printed.{Printed};
 
 // One byte more than a sheet may have: that a sheet is longer is noticed, and what lies behind is not read.
 const SHEET_ROOM: usize = sheet::MAX_BYTES + 1;
-// 52 numbers for each of 30 rows.
+// 52 numbers for each of 30 rows, and two for each range.
 const TABLE_NUMBERS: usize = 1560;
+
+const RANGES_NUMBERS: usize = 60;
 
 // Writes what is printed for an input of which the first n bytes were read: all of it that there is room for.
 fn list(sheet: &[u8; SHEET_ROOM], n: usize, text: &mut [u8; listing::TEXT_ROOM]) -> usize
@@ -18,8 +20,9 @@ fn list(sheet: &[u8; SHEET_ROOM], n: usize, text: &mut [u8; listing::TEXT_ROOM])
     ensures { λ r. ⌜ Printed (now (sheet .entry)) n (now (text .entry)) (now (text .exit)) r ⌝ }
 {
     let mut table = [0i64; TABLE_NUMBERS];
+    let mut ranges = [0i64; RANGES_NUMBERS];
     let room: &[u8] = sheet;
-    let answer = listing::list(&room[..n], &mut table, text);
+    let answer = listing::list(&room[..n], &mut table, &mut ranges, text);
     answer.length
 }
 

@@ -1,13 +1,16 @@
-// P1 to P13 (manual, section 5.11) over `affine`, a line for each: the numbers of the row and its range, or the refusal. `checker/row_cases.py` says
+// P1 to P13 (manual, section 5.11) over `affine`, a line for each: the numbers of the row and its own range, or the refusal. `checker/row_cases.py` says
 // which row owns which symbol, and makes the same lines.
 use affine::Answer;
+use affine::Range;
 use affine::Row;
 use affine::Status;
 use libc::STDOUT_FILENO;
 ghost use Prim.Native.Nat.{_≤_, _<_};
 ghost use lib.IntN.{natAbs};
+ghost use lib.Signed.{_≤ℤ_};
 ghost use Rattle.affine.specs.Limits.{symbols, paired, spanLimit};
 ghost use Rattle.affine.specs.Row.{span};
+ghost use Rattle.affine.specs.Reciprocal.{ApartOutweighs};
 
 fn print_number(z: i64) {
     io::write_all(STDOUT_FILENO, b" ");
@@ -26,13 +29,10 @@ fn print_numbers(numbers: &[i64]) {
     }
 }
 
-fn print_row(row: Row)
-    requires { ⌜ span row ≤ spanLimit ⌝ }
-{
+fn print_row(row: Row, range: Range) {
     print_number(row.centre);
     print_numbers(&row.linear);
     print_numbers(&row.pair);
-    let range = affine::range::range_of(row);
     print_number(range.low);
     print_number(range.high);
 }
@@ -42,31 +42,30 @@ fn print_refused(number: i64) {
     print_number(number);
 }
 
-fn print_example(label: &[u8], answer: Answer)
-    requires { ⌜ span (answer .row) ≤ spanLimit ⌝ }
-{
+fn print_example(label: &[u8], answer: Answer) {
     io::write_all(STDOUT_FILENO, label);
     let status = answer.status;
     let row = answer.row;
+    let range = answer.range;
     match status {
-        Status::Accepted => print_row(row),
+        Status::Accepted => print_row(row, range),
         Status::SpanPassed => print_refused(6),
         Status::ZeroInRange => print_refused(7),
     }
     io::write_all(STDOUT_FILENO, b"\n");
 }
 
-fn constant_row(value: i64) -> Row
-    ensures { λ r. ⌜ span r ≤ spanLimit ⌝ }
+// A constant, which may be an operand.
+fn constant(value: i64) -> Answer
+    ensures { λ r. ⌜ (span (r .row) ≤ spanLimit) × ApartOutweighs (r .range) (r .row) ⌝ }
 {
-    let answer = affine::steps::constant(value);
-    answer.row
+    affine::steps::constant(value)
 }
 
 // The input is row 1.
 fn input(low: i64, high: i64) -> Answer
-    requires { ⌜ (natAbs low ≤ spanLimit) × (natAbs high ≤ spanLimit) ⌝ }
-    ensures { λ r. ⌜ span (r .row) ≤ spanLimit ⌝ }
+    requires { ⌜ (natAbs low ≤ spanLimit) × (natAbs high ≤ spanLimit) × (low ≤ℤ high) ⌝ }
+    ensures { λ r. ⌜ (span (r .row) ≤ spanLimit) × ApartOutweighs (r .range) (r .row) ⌝ }
 {
     affine::steps::input(0, low, high)
 }
@@ -77,25 +76,31 @@ fn print_product(label: &[u8], x: Row, y: Row, squares: usize, own: usize)
     print_example(label, affine::product::multiply(x, y, squares, own));
 }
 
-fn print_reciprocal(label: &[u8], x: Row, squares: usize, own: usize)
-    requires { ⌜ (span x ≤ spanLimit) × (squares ≤ paired) × (own < symbols) ⌝ }
+fn print_reciprocal(label: &[u8], x: Answer, squares: usize, own: usize)
+    requires { ⌜ (span (x .row) ≤ spanLimit) × ApartOutweighs (x .range) (x .row) × (squares ≤ paired) × (own < symbols) ⌝ }
 {
-    print_example(label, affine::reciprocal::invert(x, squares, own));
+    let row = x.row;
+    let range = x.range;
+    print_example(label, affine::reciprocal::invert(row, range, squares, own));
 }
 
 // Behind an input come the constants, rows 2 and 3: the product is row 4.
 fn product_of_constants(label: &[u8], first: i64, second: i64) {
-    print_product(label, constant_row(first), constant_row(second), 0, 3);
+    let x = constant(first);
+    let y = constant(second);
+    let r = x.row;
+    let s = y.row;
+    print_product(label, r, s, 0, 3);
 }
 
 // Behind an input comes the constant, row 2: the reciprocal is row 3.
 fn reciprocal_of_constant(label: &[u8], value: i64) {
-    print_reciprocal(label, constant_row(value), 0, 2);
+    print_reciprocal(label, constant(value), 0, 2);
 }
 
 // The product of an input with itself is row 2.
 fn square_of_input(label: &[u8], low: i64, high: i64, squares: usize)
-    requires { ⌜ (natAbs low ≤ spanLimit) × (natAbs high ≤ spanLimit) × (squares ≤ paired) ⌝ }
+    requires { ⌜ (natAbs low ≤ spanLimit) × (natAbs high ≤ spanLimit) × (low ≤ℤ high) × (squares ≤ paired) ⌝ }
 {
     let answer = input(low, high);
     let x = answer.row;
@@ -104,11 +109,9 @@ fn square_of_input(label: &[u8], low: i64, high: i64, squares: usize)
 
 // The reciprocal of an input is row 2.
 fn reciprocal_of_input(label: &[u8], low: i64, high: i64, squares: usize)
-    requires { ⌜ (natAbs low ≤ spanLimit) × (natAbs high ≤ spanLimit) × (squares ≤ paired) ⌝ }
+    requires { ⌜ (natAbs low ≤ spanLimit) × (natAbs high ≤ spanLimit) × (low ≤ℤ high) × (squares ≤ paired) ⌝ }
 {
-    let answer = input(low, high);
-    let x = answer.row;
-    print_reciprocal(label, x, squares, 1);
+    print_reciprocal(label, input(low, high), squares, 1);
 }
 
 fn main() {

@@ -7,7 +7,7 @@ mod rows;
 #[path = "../sheet.rs"]
 mod sheet;
 
-use rows::Row;
+use rows::{Range, Row};
 use sheet::Refusal;
 use std::fmt::Write as _;
 use std::io::{Read, Write};
@@ -23,12 +23,12 @@ fn first_same(rows: &[Row], index: usize) -> usize {
 fn listing(input: &[u8]) -> Result<String, Refusal> {
     let schedule = sheet::read(input)?;
     let mut table = [Row::ZERO; 30];
-    evaluation::evaluate(&schedule, &mut table)?;
+    let mut ranges = [Range::ZERO; 30];
+    evaluation::evaluate(&schedule, &mut table, &mut ranges)?;
     let rows = &table[..schedule.inputs + schedule.steps];
     let mut text = String::with_capacity(4096);
     text.push_str("row low high own same\n");
-    for (index, row) in rows.iter().enumerate() {
-        let (low, high) = row.range();
+    for (index, (row, Range { low, high })) in rows.iter().zip(&ranges).enumerate() {
         let own = row.linear[index];
         writeln!(text, "{} {low} {high} {own} {}", index + 1, first_same(rows, index)).expect("a string takes any text");
     }

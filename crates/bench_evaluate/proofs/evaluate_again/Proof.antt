@@ -1,4 +1,4 @@
--- `evaluate_again` is safe and ends: the loop counts down, and a call keeps the length of the table.
+-- `evaluate_again` is safe and ends: the loop counts down, and a call keeps the lengths of the tables.
 use mathlib.Core.Path.{_≡_}
 use lib.ListN.{length}
 use borrow.Author.Needs.{needs}
@@ -6,10 +6,10 @@ use Rattle.bench_evaluate.proofs.evaluate_again.Statement.{statement}
 use Rattle.bench_evaluate.proofs.evaluate_again.Tie as tie
 
 abbrev Inv-loop : tie.InvT-loop
-Inv-loop schedule table₀ turns refusal₀ left₀ table refusal left = length table ≡ length table₀
+Inv-loop schedule table₀ ranges₀ turns refusal₀ left₀ table ranges refusal left = (length table ≡ length table₀) × (length ranges ≡ length ranges₀)
 
 abbrev μ-loop : tie.MeasureT-loop
-μ-loop schedule table₀ turns refusal₀ left₀ table refusal left = left
+μ-loop schedule table₀ ranges₀ turns refusal₀ left₀ table ranges refusal left = left
 
 loop-holds : tie.Need-loop-holds Inv-loop μ-loop
 loop-holds c = search needs
@@ -29,6 +29,9 @@ loop-again c = search needs
 same-length : tie.Need-same-length Inv-loop μ-loop
 same-length c = search needs
 
+same-length-2 : tie.Need-same-length-2 Inv-loop μ-loop
+same-length-2 c = search needs
+
 returns : tie.Need-returns Inv-loop μ-loop
 returns c = search needs
 
@@ -44,4 +47,5 @@ evaluate-again-spec =
     loop-less
     loop-again
     same-length
+    same-length-2
     returns)

@@ -1,4 +1,4 @@
--- `make_calls` is safe and ends: the turns fall, and what is lent stays within the table.
+-- `make_calls` is safe and ends: the turns fall, and what is lent stays within the tables.
 use mathlib.Core.Path.{_≡_}
 use Prim.Native.Nat.{_≤_}
 use lib.ListN.{length}
@@ -7,10 +7,10 @@ use Rattle.library_calls.proofs.make_calls.Statement.{statement}
 use Rattle.library_calls.proofs.make_calls.Tie as tie
 
 abbrev Inv-loop : tie.InvT-loop
-Inv-loop fd table₀ state₀ turns₀ table state turns = (length table ≡ 1612) × (state .length ≤ 1612)
+Inv-loop fd table₀ ranges₀ state₀ turns₀ table ranges state turns = (length table ≡ 1612) × (length ranges ≡ 70) × (state .numbers ≤ 1612) × (state .ends ≤ 70)
 
 abbrev μ-loop : tie.MeasureT-loop
-μ-loop fd table₀ state₀ turns₀ table state turns = turns
+μ-loop fd table₀ ranges₀ state₀ turns₀ table ranges state turns = turns
 
 zero-schedule-requires : tie.Need-zero-schedule-requires Inv-loop μ-loop
 zero-schedule-requires c κs = search needs
@@ -20,6 +20,9 @@ loop-holds c = search needs
 
 slice-aggregate-step : tie.Need-slice-aggregate-step Inv-loop μ-loop
 slice-aggregate-step c = search needs
+
+slice-aggregate-step-2 : tie.Need-slice-aggregate-step-2 Inv-loop μ-loop
+slice-aggregate-step-2 c = search needs
 
 step-requires : tie.Need-step-requires Inv-loop μ-loop
 step-requires c κs = search needs
@@ -48,6 +51,7 @@ make-calls-spec =
     zero-schedule-requires
     loop-holds
     slice-aggregate-step
+    slice-aggregate-step-2
     step-requires
     sub-turns
     loop-less

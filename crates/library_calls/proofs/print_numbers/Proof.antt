@@ -1,5 +1,4 @@
--- `print_numbers` is safe and ends: the loop counts to the length.
-use mathlib.Core.Path.{_≡_}
+-- `print_numbers` is safe and ends: each run goes on, at most to the length.
 use Prim.Native.Nat.{_≤_, _-_}
 use lib.ListN.{length}
 use borrow.Author.Needs.{needs}
@@ -7,10 +6,10 @@ use Rattle.library_calls.proofs.print_numbers.Statement.{statement}
 use Rattle.library_calls.proofs.print_numbers.Tie as tie
 
 abbrev Inv-loop : tie.InvT-loop
-Inv-loop numbers i₀ i-end i = (i ≤ i-end) × (i-end ≡ length numbers)
+Inv-loop numbers i₀ i = (i ≤ length numbers)
 
 abbrev μ-loop : tie.MeasureT-loop
-μ-loop numbers i₀ i-end i = i-end - i
+μ-loop numbers i₀ i = length numbers - i
 
 loop-holds : tie.Need-loop-holds Inv-loop μ-loop
 loop-holds c = search needs
@@ -21,11 +20,14 @@ mul-z c = search needs
 shared-slice-copy-out-z : tie.Need-shared-slice-copy-out-z Inv-loop μ-loop
 shared-slice-copy-out-z c = search needs
 
-print-signed-requires : tie.Need-print-signed-requires Inv-loop μ-loop
-print-signed-requires c κs = search needs
+run-end-requires : tie.Need-run-end-requires Inv-loop μ-loop
+run-end-requires c κs = search needs
 
-add-i : tie.Need-add-i Inv-loop μ-loop
-add-i c = search needs
+sub-print-run : tie.Need-sub-print-run Inv-loop μ-loop
+sub-print-run c = search needs
+
+print-run-requires : tie.Need-print-run-requires Inv-loop μ-loop
+print-run-requires c κs = search needs
 
 loop-less : tie.Need-loop-less Inv-loop μ-loop
 loop-less c = search needs
@@ -48,8 +50,9 @@ print-numbers-spec =
     loop-holds
     mul-z
     shared-slice-copy-out-z
-    print-signed-requires
-    add-i
+    run-end-requires
+    sub-print-run
+    print-run-requires
     loop-less
     loop-again
     print-line-end-requires

@@ -17,7 +17,7 @@ read c = ap (λ (a : ReadAnswer). a .refusal .number) (sym (c .before .before .b
 returns : tie.Need-returns
 returns c =
     let s = c .before .before .before in
-    listed-short (s .args .sheet .now) (s .args .table .now) (s .args .text .now) (c .if1 .taken)
+    listed-short (s .args .sheet .now) (s .args .table .now) (s .args .ranges .now) (s .args .text .now) (c .if1 .taken)
 
 read-requires : tie.Need-read-requires
 read-requires c κs = search needs
@@ -37,9 +37,9 @@ returns-2 c =
     let t = p .before .before in
     let r = t .before .before .before .before in
     let s = r .before .before .before .before in
-    let q = sheet-refused (s .args .sheet .now) (s .args .table .now) (refused t) in
-    listed-written (s .args .sheet .now) (s .args .table .now) (s .args .text .now) (r .before .if1 .left) (sym (q .1))
-    (rw (q .0) (rw (ap (λ (a : ReadAnswer). a .refusal) (r .read .ensures)) at (p .put-refusal .ensures)))
+    listed-written (s .args .sheet .now) (s .args .table .now) (s .args .ranges .now) (s .args .text .now) (r .before .if1 .left)
+    (sheet-refused (s .args .sheet .now) (s .args .table .now) (s .args .ranges .now) (refused t))
+    (rw (ap (λ (a : ReadAnswer). a .refusal) (r .read .ensures)) at (p .put-refusal .ensures))
 
 same-length-2 : tie.Need-same-length-2
 same-length-2 c = search needs
@@ -47,17 +47,24 @@ same-length-2 c = search needs
 same-length-3 : tie.Need-same-length-3
 same-length-3 c = search needs
 
+same-length-4 : tie.Need-same-length-4
+same-length-4 c = search needs
+
 returns-3 : tie.Need-returns-3
 returns-3 c =
-    let p = c .before .before .before in
-    let t = p .before .before .before in
+    let p = c .before .before .before .before in
+    let t = p .before .before .before .before in
     let r = t .before .before .before .before in
     let s = r .before .before .before .before in
-    let q = sheet-read (s .args .sheet .now) (s .args .table .now) (read t) in
     let e = ap (λ (a : ReadAnswer). a .schedule) (r .read .ensures) in
-    listed-written (s .args .sheet .now) (s .args .table .now) (s .args .text .now) (r .before .if1 .left)
-    ((rw e at (p .list-schedule .ensures .1)) ∙ sym (q .1))
-    (rw (q .0) (rw e at (p .list-schedule .ensures .0)))
+    let q = sheet-read (s .args .sheet .now) (s .args .table .now) (s .args .ranges .now) (read t) in
+    listed-written (s .args .sheet .now) (s .args .table .now) (s .args .ranges .now) (s .args .text .now) (r .before .if1 .left)
+    (record {
+      text-is = q .text-is;
+      table-is = q .table-is ∙ sym (rw e at (p .list-schedule .ensures .1 .0));
+      ranges-are = q .ranges-are ∙ sym (rw e at (p .list-schedule .ensures .1 .1));
+    })
+    (rw e at (p .list-schedule .ensures .0))
 
 pub list-spec : {M : Type 1} → statement M
 list-spec =
@@ -71,4 +78,5 @@ list-spec =
     returns-2
     same-length-2
     same-length-3
+    same-length-4
     returns-3)

@@ -1,9 +1,11 @@
--- The row of an input is within the span.
+-- An input may be an operand.
 use mir.Syntax.{w64}
 use mir.ValLaws.{toZ-ofZ}
 use borrow.Author.Needs.{needs}
-use Rattle.affine.specs.Steps.{inputRow}
+use Rattle.affine.specs.Steps.{inputRow, endsRange}
 use Rattle.affine.proofs.Answers.{answer-within}
+use Rattle.affine.proofs.InputRow.{input-outweighs}
+use Rattle.row_examples.proofs.Within.{checked-apart}
 use Rattle.row_examples.proofs.input.Statement.{statement}
 use Rattle.row_examples.proofs.input.Tie as tie
 
@@ -12,8 +14,11 @@ input-requires c κs = search needs
 
 returns : tie.Need-returns
 returns c =
+    let a = c .before .args in
+    let r = inputRow 0 (a .low) (a .high) in
+    let own = endsRange (a .low) (a .high) in
     rw (c .input .ensures, toZ-ofZ w64 _ (c .before .fits .low), toZ-ofZ w64 _ (c .before .fits .high))
-    (answer-within (inputRow 0 (c .before .args .low) (c .before .args .high)))
+    (answer-within r own, checked-apart r own (input-outweighs 0 (a .low) (a .high) (c .before .pre .2)))
 
 pub input-spec : {M : Type 1} → statement M
 input-spec = tie.close (tie.spec input-requires returns)

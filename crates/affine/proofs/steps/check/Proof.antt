@@ -1,12 +1,12 @@
--- `steps::check` meets its contract: by the two results of the span test.
-use mathlib.Core.Path.{_≡_, sym, _∙_}
-use borrow.Author.Tests.{le-leb, lt-leb}
+-- `steps::check` meets its contract: by what was measured.
+use mathlib.Core.Path.{_≡_, _∙_}
+use lib.ListN.{length}
 use mir.Syntax.{w64}
 use mir.Val.{SFits}
 use mir.ValLaws.{toZ-ofZ}
-use Rattle.affine.specs.Limits.{spanLimit}
-use Rattle.affine.specs.Row.{span}
-use Rattle.affine.proofs.Answers.{checked-within, checked-passed}
+use Rattle.affine.specs.Limits.{pairs}
+use Rattle.affine.specs.Measured.{measured}
+use Rattle.affine.proofs.Answers.{answer-measured}
 use borrow.Author.Needs.{needs}
 use Rattle.affine.proofs.steps.check.Statement.{statement}
 use Rattle.affine.proofs.steps.check.Tie as tie
@@ -14,23 +14,23 @@ use Rattle.affine.proofs.steps.check.Tie as tie
 centre-fits : (c : tie.Start) → SFits w64 (c .args .t1 .centre)
 centre-fits c = search needs
 
-span-of-requires : tie.Need-span-of-requires
-span-of-requires c κs =
-    let s = c .before .before .before .before in
-    rw (toZ-ofZ w64 _ (centre-fits s)) (s .pre)
+pair-long : (c : tie.Start) → length (c .args .t1 .pair) ≡ pairs
+pair-long c = search needs
 
-span-is : (c : tie.After-span-of) → c .span-of .result ≡ span (c .before .before .before .before .before .args .t1)
-span-is c = rw (toZ-ofZ w64 _ (centre-fits (c .before .before .before .before .before))) at (c .span-of .ensures)
+measure-requires : tie.Need-measure-requires
+measure-requires c κs = let s = c .before .before .before .before in (pair-long s, rw (toZ-ofZ w64 _ (centre-fits s)) (s .pre))
 
-refusal-requires : tie.Need-refusal-requires
-refusal-requires c κs = search needs
+abbrev start : tie.After-measure → tie.Start
+start c = c .before .before .before .before .before
+
+told : (c : tie.After-measure) → c .measure .result ≡ measured (start c .args .t1)
+told c = rw (toZ-ofZ w64 _ (centre-fits (start c))) at (c .measure .ensures)
+
+answer-requires : tie.Need-answer-requires
+answer-requires c κs = search needs
 
 returns : tie.Need-returns
-returns c = sym (checked-within _ (le-leb _ spanLimit (rw (span-is (c .before)) at (c .if1 .taken))))
-
-returns-2 : tie.Need-returns-2
-returns-2 c =
-    c .refusal .ensures ∙ sym (checked-passed _ (lt-leb _ spanLimit (rw (span-is (c .before .before)) at (c .before .if1 .left))))
+returns c = let m = c .before .before in c .answer .ensures ∙ answer-measured (start m .args .t1) (told m)
 
 pub check-spec : {M : Type 1} → statement M
-check-spec = tie.close (tie.spec span-of-requires refusal-requires returns returns-2)
+check-spec = tie.close (tie.spec measure-requires answer-requires returns)

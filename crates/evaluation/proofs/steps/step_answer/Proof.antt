@@ -1,4 +1,4 @@
--- `step_answer` tests the code as its definition does; the rows it reads are those that the step names, for what is read back from the bits of a
+-- `step_answer` tests the code as its definition does; the rows and the range it reads are those that the step names, for what is read back from the bits of a
 -- field that passed is the field's number.
 use mathlib.Core.Path.{_≡_, _∙_}
 use Prim.Native.Nat.{_-_, _<_}
@@ -11,7 +11,7 @@ use Rattle.sheet.specs.Lines.{natural}
 use Rattle.sheet.specs.Limits.{lastCode}
 use Rattle.sheet.proofs.Passing.{Natural}
 use Rattle.evaluation.proofs.FieldBits.{NaturalCast, cast-natural, number-is, number-is-not}
-use Rattle.evaluation.proofs.StepAnswers.{read-room, read-span, named-earlier, named-is, constant-step, reciprocal-step, binary-step}
+use Rattle.evaluation.proofs.StepAnswers.{read-room, read-span, read-range-room, read-apart, named-earlier, named-is, named-range-is, constant-step, reciprocal-step, binary-step}
 use borrow.Author.Needs.{needs}
 use Rattle.evaluation.proofs.steps.step_answer.Statement.{statement}
 use Rattle.evaluation.proofs.steps.step_answer.Tie as tie
@@ -57,7 +57,7 @@ constant-requires c κs = search needs
 returns : tie.Need-returns
 returns c =
     let s = c .before .before .before .before in
-    constant-step (s .args .squares) (s .args .table .now) (s .args .own) (s .args .t)
+    constant-step (s .args .squares) (s .args .table .now) (s .args .ranges .now) (s .args .own) (s .args .t)
     (number-is (fields-fit s .0) (omega arith) (c .before .before .if1 .taken))
     (rw (toZ-ofZ w64 _ (value-fits s)) at (c .constant .ensures))
 
@@ -68,25 +68,39 @@ cast-first c = first-cast c .fits
 first-earlier : (c : tie.After-struct-told3) → natAbs (toZ w64 (ofZ w64 (start c .args .t .first))) - 1 < start c .args .own
 first-earlier c = named-earlier (first-named c) (first-cast c .is)
 
+sub-get-range : tie.Need-sub-get-range
+sub-get-range c = omega (arith, first-cast (c .before) .is, first-named (c .before) .from)
+
+get-range-requires : tie.Need-get-range-requires
+get-range-requires c κs = read-range-room (start (c .before) .pre .1 .1) (first-earlier (c .before))
+
 sub-get-row : tie.Need-sub-get-row
-sub-get-row c = omega (arith, first-cast (c .before) .is, first-named (c .before) .from)
+sub-get-row c = let f = c .before .before in omega (arith, first-cast f .is, first-named f .from)
 
 get-row-requires : tie.Need-get-row-requires
-get-row-requires c κs = read-room (start (c .before) .pre .1) (first-earlier (c .before))
+get-row-requires c κs = let f = c .before .before in read-room (start f .pre .1 .0) (first-earlier f)
 
 invert-requires : tie.Need-invert-requires
 invert-requires c κs =
-    let f = c .before .before in
-    let s = start f in
-    (s .pre .0 .0, s .pre .0 .1, read-span (s .pre .1) (first-earlier f) (c .get-row .ensures))
+    let r = c .before in
+    let f = r .before .before in
+    let s = start f in (
+      s .pre .0 .0,
+      s .pre .0 .1,
+      read-span (s .pre .1 .0) (first-earlier f) (c .get-row .ensures),
+      read-apart (s .pre .1 .1) (first-earlier f) (c .get-row .ensures) (r .get-range .ensures),
+    )
 
 returns-2 : tie.Need-returns-2
 returns-2 c =
-    let f = c .before .before .before in
+    let g = c .before in
+    let r = g .before in
+    let f = r .before .before in
     let s = start f in
-    reciprocal-step (s .args .squares) (s .args .table .now) (s .args .own) (s .args .t)
-    (number-is (fields-fit s .0) (omega arith) (c .before .before .if2 .taken))
-    (c .before .get-row .ensures ∙ named-is (first-named f) (first-cast f .is) (s .args .table .now))
+    reciprocal-step (s .args .squares) (s .args .table .now) (s .args .ranges .now) (s .args .own) (s .args .t)
+    (number-is (fields-fit s .0) (omega arith) (r .before .if2 .taken))
+    (g .get-row .ensures ∙ named-is (first-named f) (first-cast f .is) (s .args .table .now))
+    (r .get-range .ensures ∙ named-range-is (first-named f) (first-cast f .is) (s .args .ranges .now))
     (c .invert .ensures)
 
 cast-second : tie.Need-cast-second
@@ -101,14 +115,14 @@ sub-binary-answer-2 c = omega (arith, second-cast c .is, second-named c .from)
 binary-answer-requires : tie.Need-binary-answer-requires
 binary-answer-requires c κs =
     let s = start (earlier c) in
-    ((s .pre .0 .0, s .pre .0 .1, first-earlier (earlier c), named-earlier (second-named c) (second-cast c .is)), s .pre .1)
+    ((s .pre .0 .0, s .pre .0 .1, first-earlier (earlier c), named-earlier (second-named c) (second-cast c .is)), s .pre .1 .0)
 
 returns-3 : tie.Need-returns-3
 returns-3 c =
     let p = c .before in
     let f = earlier p in
     let s = start f in
-    binary-step (s .args .squares) (s .args .table .now) (s .args .own) (s .args .t) (not-constant f) (not-reciprocal p)
+    binary-step (s .args .squares) (s .args .table .now) (s .args .ranges .now) (s .args .own) (s .args .t) (not-constant f) (not-reciprocal p)
     (named-is (first-named f) (first-cast f .is) (s .args .table .now))
     (named-is (second-named p) (second-cast p .is) (s .args .table .now))
     (rw (toZ-ofZ w64 _ (fields-fit s .0)) at (c .binary-answer .ensures))
@@ -120,6 +134,8 @@ step-answer-spec =
     constant-requires
     returns
     cast-first
+    sub-get-range
+    get-range-requires
     sub-get-row
     get-row-requires
     invert-requires

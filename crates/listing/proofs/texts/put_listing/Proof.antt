@@ -17,7 +17,7 @@ put-rows-requires : tie.Need-put-rows-requires
 put-rows-requires c κs =
     let f = c .before .before .before in
     let s = f .before .before .before .before in
-    (s .pre .0, omega (arith, f .put-bytes .ensures .ends, f .put-bytes .kept .0, rows-short (s .args .table .now) (s .args .count), s .pre .0 .few, s .pre .1))
+    (s .pre .0, omega (arith, f .put-bytes .ensures .ends, f .put-bytes .kept .0, rows-short (s .args .table .now) (s .args .ranges .now) (s .args .count), s .pre .0 .0 .few, s .pre .1))
 
 same-length : tie.Need-same-length
 same-length c = search needs

@@ -13,10 +13,10 @@ use Rattle.listing.proofs.texts.put_rows.Statement.{statement}
 use Rattle.listing.proofs.texts.put_rows.Tie as tie
 
 abbrev Inv-loop : tie.InvT-loop
-Inv-loop text₀ at table count p₀ row₀ text p row = (row ≤ count) × (length text ≡ length text₀) × Wrote text₀ text at p (texts row 1 (rowText table count))
+Inv-loop text₀ at table ranges count p₀ row₀ text p row = (row ≤ count) × (length text ≡ length text₀) × Wrote text₀ text at p (texts row 1 (rowText table ranges count))
 
 abbrev μ-loop : tie.MeasureT-loop
-μ-loop text₀ at table count p₀ row₀ text p row = count - row
+μ-loop text₀ at table ranges count p₀ row₀ text p row = count - row
 
 loop-holds : tie.Need-loop-holds Inv-loop μ-loop
 unfolding texts
@@ -26,19 +26,21 @@ add-row : tie.Need-add-row Inv-loop μ-loop
 add-row c = search needs
 
 row-numbers-requires : tie.Need-row-numbers-requires Inv-loop μ-loop
-row-numbers-requires c κs = record { rows = c .before .before .before .pre .0; from-one = omega arith; up-to = omega arith }
+row-numbers-requires c κs =
+    let s = c .before .before .before in
+    (record { rows = s .pre .0 .0; from-one = omega arith; up-to = omega arith }, s .pre .0 .1)
 
 -- the line that is put is the next row's
 line-is : (c : tie.After-row-numbers Inv-loop μ-loop)
     → let l = c .before .before in
     let s = l .before .before in
-    line (c .row-numbers .result) ≡ rowText (s .args .table .now) (s .args .count) (1 + l .loop .row)
+    line (c .row-numbers .result) ≡ rowText (s .args .table .now) (s .args .ranges .now) (s .args .count) (1 + l .loop .row)
 unfolding rowText
 line-is c =
     let l = c .before .before in
     let s = l .before .before in
     let n : l .loop .row + 1 ≡ 1 + l .loop .row = omega arith in
-    ap line (c .row-numbers .ensures) ∙ ap (rowText (s .args .table .now) (s .args .count)) n
+    ap line (c .row-numbers .ensures) ∙ ap (rowText (s .args .table .now) (s .args .ranges .now) (s .args .count)) n
 
 slice-aggregate-put-fields : tie.Need-slice-aggregate-put-fields Inv-loop μ-loop
 slice-aggregate-put-fields c = search needs
@@ -51,7 +53,7 @@ put-fields-requires c κs =
     omega (
       arith,
       ap length (line-is r),
-      texts-room (rowText (s .args .table .now) (s .args .count)) (s .args .count) 1 (l .loop .row) (omega arith),
+      texts-room (rowText (s .args .table .now) (s .args .ranges .now) (s .args .count)) (s .args .count) 1 (l .loop .row) (omega arith),
       l .loop .inv .2 .ends,
       s .pre .1,
     )
@@ -67,7 +69,7 @@ loop-again c =
     let s = l .before .before in (
       omega arith,
       f .put-fields .kept .0 ∙ l .loop .inv .1,
-      rw (texts-more (rowText (s .args .table .now) (s .args .count)) (l .loop .row) 1) (wrote-then (l .loop .inv .2) (rw (line-is r) at (f .put-fields .ensures))),
+      rw (texts-more (rowText (s .args .table .now) (s .args .ranges .now) (s .args .count)) (l .loop .row) 1) (wrote-then (l .loop .inv .2) (rw (line-is r) at (f .put-fields .ensures))),
     )
 
 same-length : tie.Need-same-length Inv-loop μ-loop

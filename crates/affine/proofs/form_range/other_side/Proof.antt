@@ -1,8 +1,8 @@
--- `range::other_side` meets its contract: by the test of the side.
+-- `form_range::other_side` meets its contract: by the test of the side.
 use mir.Syntax.{w64}
 use mir.ValLaws.{toZ-ofZ}
-use Rattle.affine.proofs.range.other_side.Statement.{statement}
-use Rattle.affine.proofs.range.other_side.Tie as tie
+use Rattle.affine.proofs.form_range.other_side.Statement.{statement}
+use Rattle.affine.proofs.form_range.other_side.Tie as tie
 
 returns : tie.Need-returns
 returns c = rw (c .if1 .taken, toZ-ofZ w64 _ (c .before .fits .v))
