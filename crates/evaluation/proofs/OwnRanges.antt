@@ -5,8 +5,9 @@ use mathlib.Core.Logic.{_⊎_, inl, inr}
 use mathlib.Core.List.{List, [], _∷_, _++_}
 use Prim.Native.Nat.{ℕ, suc, _≤_, _<_}
 use native.Mathlib.Omega.{arith}
-use borrow.Author.Tests.{lt-ltb, le-ltb}
-use lib.IntN.{pos, natAbs}
+use borrow.Author.Tests.{ltb-true, ltb-false}
+use lib.Dec.{ltb}
+use lib.IntN.{ℤ, pos, natAbs}
 use lib.ListN.{length, getD, length-append, List·getD-append}
 use lib.Seq.{ext-getD, getD-at}
 use lib.Signed.{_≤ℤ_}
@@ -17,7 +18,7 @@ use Rattle.affine.specs.Limits.{spanLimit}
 use Rattle.affine.specs.Row.{formRange}
 use Rattle.affine.specs.Steps.{constantRow, inputRow, endsRange}
 use Rattle.affine.specs.Reciprocal.{ApartOutweighs}
-use Rattle.affine.proofs.Lists.{length-tabulate, getD-tabulate}
+use Rattle.affine.proofs.Lists.{pick-elim, length-tabulate, getD-tabulate}
 use Rattle.affine.proofs.RangeSize.{low-not-above-high, low-within, high-within}
 use Rattle.affine.proofs.InputRow.{input-outweighs}
 use Rattle.affine.proofs.Distance.{form-outweighs}
@@ -40,11 +41,10 @@ pub record RangeWithin (n : ℕ) (range : Range) : Type 0 where
   pub high-in : natAbs (range .high) ≤ n
 
 module _ (c : Schedule) where
-  pub own-of-input : (i : ℕ) (r : Row) → i < natural (c .inputs) → ownRange c i r ≡ endsRange (endsAt c i .low) (endsAt c i .high)
-  own-of-input i r h = rw (lt-ltb i (natural (c .inputs)) h)
-
-  pub own-of-step : (i : ℕ) (r : Row) → natural (c .inputs) ≤ i → ownRange c i r ≡ formRange r
-  own-of-step i r h = rw (le-ltb i (natural (c .inputs)) h)
+  -- what holds of an input's ends, and of the range of any other row's form, holds of the own range
+  pub own-cases : (P : Range → Type 0) (i : ℕ) (r : Row) → (i < natural (c .inputs) → P (endsRange (endsAt c i .low) (endsAt c i .high))) → (natural (c .inputs) ≤ i → P (formRange r)) → P (ownRange c i r)
+  own-cases P i r input step =
+      pick-elim P (ltb i (natural (c .inputs))) _ _ (λ e. input (ltb-true i (natural (c .inputs)) e)) (λ e. step (ltb-false i (natural (c .inputs)) e))
 
   pub length-own : (rows : List Row) → length (ownRanges c rows) ≡ length rows
   unfolding ownRanges
@@ -81,54 +81,37 @@ module _ (c : Schedule) where
   module _ (rows : List Row) where
     -- what its answer tells
     pub answer-range : rowAnswer c rows .status ≡ Accepted → rowAnswer c rows .range ≡ ownRange c (length rows) (rowAnswer c rows .row)
-    answer-range h = by-line (lt-or-ge (length rows) (natural (c .inputs)))
-      where
-        by-line : (length rows < natural (c .inputs)) ⊎ (natural (c .inputs) ≤ length rows) → rowAnswer c rows .range ≡ ownRange c (length rows) (rowAnswer c rows .row)
-        by-line (inl l) =
-            let e = rowAnswer-input c rows (length rows) refl l in
-            ap (λ a. a .range) (e ∙ checked-accepted _ _ (rw e at h)) ∙ sym (own-of-input (length rows) (rowAnswer c rows .row) l)
-        by-line (inr l) =
-            let e = rowAnswer-step c rows (length rows) refl l in
-            ap (λ a. a .range) e ∙ step-tells _ rows (ownRanges c rows) _ ∙ ap (λ a. formRange (a .row)) (sym e)
-            ∙ sym (own-of-step (length rows) (rowAnswer c rows .row) l)
+    answer-range h =
+        own-cases (λ z. rowAnswer c rows .range ≡ z) (length rows) (rowAnswer c rows .row)
+        (λ l. let e = rowAnswer-input c rows (length rows) refl l in ap (λ a. a .range) (e ∙ checked-accepted _ _ (rw e at h)))
+        (λ l. let e = rowAnswer-step c rows (length rows) refl l in ap (λ a. a .range) e ∙ step-tells _ rows (ownRanges c rows) _ ∙ ap (λ a. formRange (a .row)) (sym e))
 
     module _ (passed : Passed c) (h : rowAnswer c rows .status ≡ Accepted) where
       abbrev r : Row
       r = rowAnswer c rows .row
 
-      abbrev own : Range
-      own = ownRange c (length rows) r
-
-      pub own-outweighs : ApartOutweighs own r
-      own-outweighs = by-line (lt-or-ge (length rows) (natural (c .inputs)))
+      pub own-outweighs : ApartOutweighs (ownRange c (length rows) r) r
+      own-outweighs = own-cases (λ z. ApartOutweighs z r) (length rows) r of-input (λ l. form-outweighs r)
         where
-          by-line : (length rows < natural (c .inputs)) ⊎ (natural (c .inputs) ≤ length rows) → ApartOutweighs own r
-          by-line (inl l) =
-              let low = endsAt c (length rows) .low in
-              let high = endsAt c (length rows) .high in
+          low : ℤ
+          low = endsAt c (length rows) .low
+
+          high : ℤ
+          high = endsAt c (length rows) .high
+
+          of-input : length rows < natural (c .inputs) → ApartOutweighs (endsRange low high) r
+          of-input l =
               let e = rowAnswer-input c rows (length rows) refl l in
               let is-input : r ≡ inputRow (length rows) low high = ap (λ a. a .row) (e ∙ checked-accepted _ _ (rw e at h)) in
-              subst (ApartOutweighs own) (sym is-input)
-              (subst (λ z. ApartOutweighs z (inputRow (length rows) low high)) (sym (own-of-input (length rows) r l))
-              (input-outweighs (length rows) low high (ends-ordered c passed (length rows) l)))
-          by-line (inr l) = subst (λ z. ApartOutweighs z r) (sym (own-of-step (length rows) r l)) (form-outweighs r)
+              subst (ApartOutweighs (endsRange low high)) (sym is-input) (input-outweighs (length rows) low high (ends-ordered c passed (length rows) l))
 
   -- ---- low is not above high
   pub own-ordered : Passed c → (i : ℕ) (r : Row) → ownRange c i r .low ≤ℤ ownRange c i r .high
-  own-ordered passed i r = by-line (lt-or-ge i (natural (c .inputs)))
-    where
-      by-line : (i < natural (c .inputs)) ⊎ (natural (c .inputs) ≤ i) → ownRange c i r .low ≤ℤ ownRange c i r .high
-      by-line (inl l) = subst (λ (z : Range). z .low ≤ℤ z .high) (sym (own-of-input i r l)) (ends-ordered c passed i l)
-      by-line (inr l) = subst (λ (z : Range). z .low ≤ℤ z .high) (sym (own-of-step i r l)) (low-not-above-high r)
+  own-ordered passed i r = own-cases (λ (z : Range). z .low ≤ℤ z .high) i r (ends-ordered c passed i) (λ l. low-not-above-high r)
 
   -- ---- no end is beyond the span limit
   pub own-within : Passed c → (i : ℕ) (r : Row) → Sound r → RangeWithin spanLimit (ownRange c i r)
-  own-within passed i r s = by-line (lt-or-ge i (natural (c .inputs)))
-    where
-      by-line : (i < natural (c .inputs)) ⊎ (natural (c .inputs) ≤ i) → RangeWithin spanLimit (ownRange c i r)
-      by-line (inl l) =
-          let e = passed .ends i l in
-          subst (RangeWithin spanLimit) (sym (own-of-input i r l)) (record { low-in = omega (arith, e .low-in); high-in = omega (arith, e .high-in) })
-      by-line (inr l) =
-          subst (RangeWithin spanLimit) (sym (own-of-step i r l))
-          (record { low-in = low-within r (s .shaped .pair) (s .within); high-in = high-within r (s .shaped .pair) (s .within) })
+  own-within passed i r s =
+      own-cases (RangeWithin spanLimit) i r
+      (λ l. let e = passed .ends i l in record { low-in = omega (arith, e .low-in); high-in = omega (arith, e .high-in) })
+      (λ l. record { low-in = low-within r (s .shaped .pair) (s .within); high-in = high-within r (s .shaped .pair) (s .within) })

@@ -1,9 +1,9 @@
 -- Each row of accepted work encloses its exact value: by its line, the enclosure law of its operation.
 use mathlib.Core.Path.{_≡_, sym, subst}
-use mathlib.Core.Logic.{_≢_, _⊎_, inl, inr}
+use mathlib.Core.Logic.{_≢_}
 use mathlib.Core.Bool.{false}
 use mathlib.Core.List.{[], _∷_}
-use Prim.Native.Nat.{ℕ, _≤_, _<_}
+use Prim.Native.Nat.{ℕ, _<_}
 use native.Mathlib.Omega.{arith}
 use lib.IntN.{pos, negsuc}
 use Rattle.integer.specs.Fraction.{Fraction, _≈_, _≤ℚ_, _-ℚ_, _*ℚ_, negℚ, whole, reciprocal}
@@ -16,7 +16,8 @@ use Rattle.affine.specs.declared.Row.{Row}
 use Rattle.affine.specs.declared.Range.{Range}
 use Rattle.affine.specs.Limits.{symbols, unit, unitSquared}
 use Rattle.affine.specs.Lists.{at}
-use Rattle.affine.specs.Steps.{inputRow}
+use Rattle.affine.specs.Row.{formRange}
+use Rattle.affine.specs.Steps.{inputRow, endsRange}
 use Rattle.affine.specs.Product.{productRow}
 use Rattle.affine.specs.Reciprocal.{zeroInRange, distance, reciprocalRow}
 use Rattle.affine.proofs.Form.{Shaped, UsesOnly, units}
@@ -31,9 +32,8 @@ use Rattle.sheet.specs.Lines.{natural, endsAt}
 use Rattle.sheet.proofs.Passed.{Passed}
 use Rattle.evaluation.specs.Work.{rowCount}
 use Rattle.evaluation.specs.Demand3.{InputsWithin}
-use Rattle.evaluation.proofs.Induction.{lt-or-ge}
 use Rattle.evaluation.proofs.ExactRows.{input-value}
-use Rattle.evaluation.proofs.OwnRanges.{own-of-input, own-of-step}
+use Rattle.evaluation.proofs.OwnRanges.{own-cases}
 use Rattle.evaluation.proofs.WorkLaws.{rowsUpTo, Went}
 use Rattle.evaluation.proofs.Made.{Made, is-input, is-constant, is-sum, is-difference, is-product, is-reciprocal, row, range, value, made}
 use Rattle.evaluation.proofs.RowLines.{rows-few, squares-few}
@@ -83,22 +83,22 @@ module _ (c : Schedule) (passed : Passed c) (x : ℕ → Fraction) (within : Inp
 
   -- the exact value of a row lies in its own range: an input's within its ends, any other where its form has the exact value
   pub in-own : (ε : ℕ → Fraction) → Unit-symbols orderedFractions ε → (i : ℕ) → X i ≈ units ringOfFractions (f i) ε → Lies (X i) (g i)
-  in-own ε unital i same = by-line (lt-or-ge i (natural (c .inputs)))
+  in-own ε unital i same = own-cases c (Lies (X i)) i (f i) of-input (λ l. of-form)
     where
       shaped : Shaped (f i)
       shaped = row-sound c (rowsUpTo c i) .shaped
 
-      by-line : (i < natural (c .inputs)) ⊎ (natural (c .inputs) ≤ i) → Lies (X i) (g i)
-      by-line (inl l) =
-          subst (λ v. Lies (scaled v) (g i)) (sym (input-value c x i l))
-          (subst (Lies (scaled (x i))) (sym (own-of-input c i (f i) l))
-          (record { from = scaled-above (≤ℚ-of-not-below (within i l .not-below)); to = scaled-below (≤ℚ-of-not-below (within i l .not-above)) }))
-      by-line (inr l) =
-          subst (Lies (X i)) (sym (own-of-step c i (f i) l))
-          (record {
+      of-input : i < natural (c .inputs) → Lies (X i) (endsRange (endsAt c i .low) (endsAt c i .high))
+      of-input l =
+          subst (λ v. Lies (scaled v) (endsRange (endsAt c i .low) (endsAt c i .high))) (sym (input-value c x i l))
+          (record { from = scaled-above (≤ℚ-of-not-below (within i l .not-below)); to = scaled-below (≤ℚ-of-not-below (within i l .not-above)) })
+
+      of-form : Lies (X i) (formRange (f i))
+      of-form =
+          record {
             from = le-cong orderedFractions (≈-refl _) (≈-sym same) (low-holds-value orderedFractions ε unital (f i) shaped);
             to = le-cong orderedFractions (≈-sym same) (≈-refl _) (high-holds-value orderedFractions ε unital (f i) shaped);
-          })
+          }
 
   -- so it is as far from 0 as that range
   pub own-apart : (i : ℕ) → zeroInRange (g i) ≡ false → Lies (X i) (g i) → ¬ (X i ≈ whole (pos 0))

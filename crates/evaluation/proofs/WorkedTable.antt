@@ -16,6 +16,7 @@ use Rattle.affine.specs.declared.Range.{Range}
 use Rattle.affine.specs.declared.Answer.{Answer}
 use Rattle.affine.specs.declared.Status.the-variants.{Accepted}
 use Rattle.affine.specs.Limits.{spanLimit}
+use Rattle.affine.specs.Lists.{tabulate}
 use Rattle.affine.specs.Row.{numbers, span}
 use Rattle.affine.specs.Steps.{constantRow, number}
 use Rattle.affine.specs.Reciprocal.{ApartOutweighs}
@@ -37,6 +38,12 @@ use Rattle.evaluation.proofs.EvaluationEnds.{nothing-put, nothing-told}
 abbrev none : Row
 none = constantRow (pos 0)
 
+-- what gives each element of a list tabulates the list
+tabulated : {A : Type 0} (d : A) (xs : List A) (f : ℕ → A) → ((i : ℕ) → i < length xs → f i ≡ getD xs i d) → tabulate (length xs) f ≡ xs
+tabulated d xs f each =
+    let long = length-tabulate (length xs) f in
+    ext-getD d (tabulate (length xs) f) xs long (λ i h. let l = subst (λ k. i < k) long h in getD-tabulate (length xs) f d i l ∙ each i l)
+
 -- ---- rows of which each is sound, put into a table
 module _ (rows : List Row) (table : List ℤ) (sound : (i : ℕ) → i < length rows → Sound (getD rows i none)) where
   wide : Wide rowWidth numbers none rows
@@ -51,9 +58,7 @@ module _ (rows : List Row) (table : List ℤ) (sound : (i : ℕ) → i < length 
 
   pub rowsIn-tableAfter : rowsIn (tableAfter rows table) (length rows) ≡ rows
   unfolding rowsIn
-  rowsIn-tableAfter =
-      ext-getD none _ rows (length-tabulate (length rows) _)
-      (λ i h. let l : i < length rows = subst (λ k. i < k) (length-tabulate (length rows) (rowAt (tableAfter rows table))) h in getD-tabulate (length rows) _ none i l ∙ rowAt-tableAfter i l)
+  rowsIn-tableAfter = tabulated none rows (rowAt (tableAfter rows table)) rowAt-tableAfter
 
   pub rowsWithin-tableAfter : rowWidth * length rows ≤ length table → RowsWithin (tableAfter rows table) (length rows)
   rowsWithin-tableAfter h =
@@ -76,9 +81,7 @@ module _ (told : List Range) (ranges : List ℤ) where
 
   pub rangesIn-rangesAfter : rangesIn (rangesAfter told ranges) (length told) ≡ told
   unfolding rangesIn
-  rangesIn-rangesAfter =
-      ext-getD noRange _ told (length-tabulate (length told) _)
-      (λ i h. let l : i < length told = subst (λ k. i < k) (length-tabulate (length told) (rangeAt (rangesAfter told ranges))) h in getD-tabulate (length told) _ noRange i l ∙ rangeAt-rangesAfter i l)
+  rangesIn-rangesAfter = tabulated noRange told (rangeAt (rangesAfter told ranges)) rangeAt-rangesAfter
 
   pub rangesAfter-more : (r : Range) → rangesAfter (told ++ (r ∷ [])) ranges ≡ paste (rangesAfter told ranges) (rangeWidth * length told) (rangeNumbers r) rangeWidth
   rangesAfter-more r = after-more rangeWidth rangeNumbers noRange told ranges (λ i h. refl) r refl
