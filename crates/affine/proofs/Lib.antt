@@ -11,6 +11,7 @@ pub mod Termwise
 pub mod Comparison
 pub mod Magnitude
 pub mod Totals
+pub mod Agreement
 pub mod CandidateSize
 pub mod Candidate
 pub mod ErrorBound

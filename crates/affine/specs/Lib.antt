@@ -4,6 +4,7 @@ pub mod PairOrder
 pub mod Row
 pub mod Steps
 pub mod Product
+pub mod Agreement
 pub mod Reciprocal
 pub mod Capped
 pub mod Measured
