@@ -3,7 +3,7 @@
     python3 bench/measure.py BENCH_EVALUATE PLAIN_EVALUATE RANGES PLAIN_LISTING FORMULA PLAIN_FORMULA
 
 Instructions are callgrind's and vary by under 1 part in 100 with where the stack starts (memcpy goes by alignment). Those of one evaluation
-are a difference of two counts N, so that start and reading fall out. Times are processor time, the best of several runs in turn, and noisy on
+are a difference of two counts N, so that start and reading fall out. Times are processor time, the median of several runs in turn, and noisy on
 a shared machine. Reading has no count N: its instructions are those of a sheet with one byte too many (read whole, then refused) less those of
 an empty one.
 
@@ -25,7 +25,8 @@ SHEETS = pathlib.Path(__file__).resolve().parent / "sheets"
 FORMULAS = pathlib.Path(__file__).resolve().parent / "formulas"
 FEW, MANY = 100, 400
 TIMED = 20_000
-RUNS = 9
+RUNS = 15
+EVALUATED = ("multiply", "reciprocal", "reciprocals", "add")
 LISTED = 3_000
 FORMULAS_READ = 1_000
 
@@ -68,6 +69,12 @@ def seconds(program: str, sheet: bytes) -> float:
     return resource.getrusage(resource.RUSAGE_CHILDREN).ru_utime - before
 
 
+def evaluation_times(programs: list[str], sheet: bytes) -> list[float]:
+    """The median time of one evaluation by each program, in millionths of a second; the programs run in turn."""
+    turns = [[seconds(program, sheet) for program in programs] for _ in range(RUNS)]
+    return [statistics.median(column) * 1e6 / TIMED for column in zip(*turns)]
+
+
 def must_be_alike(name: str, ours: bytes, plain: bytes) -> None:
     if ours != plain:
         sys.exit(f"{name}: the two programs print different lines")
@@ -79,11 +86,10 @@ def line(name: str, ours: float, plain: float, more: str = "") -> None:
 
 def measure_evaluation(ours: str, plain: str) -> None:
     print(f"{'sheet':<14}{'ours':>12}{'plain Rust':>12}{'ratio':>8}{'ours, us':>12}{'Rust, us':>12}{'ratio':>8}")
-    for name in ("multiply", "reciprocal", "reciprocals", "add"):
+    for name in EVALUATED:
         sheet = (SHEETS / name).read_bytes()
         must_be_alike(name, output([ours], counted(1, sheet)), output([plain], counted(1, sheet)))
-        pairs = [(seconds(ours, sheet), seconds(plain, sheet)) for _ in range(RUNS)]
-        a, b = (min(column) * 1e6 / TIMED for column in zip(*pairs))
+        a, b = evaluation_times([ours, plain], sheet)
         times = f"{a:>12.2f}{b:>12.2f}{a / b:>8.2f}"
         line(name, evaluation_instructions(ours, sheet), evaluation_instructions(plain, sheet), times)
     sheet = (SHEETS / "multiply").read_bytes()

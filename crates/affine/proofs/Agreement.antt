@@ -7,20 +7,19 @@ use Prim.Native.Nat.{ℕ, zero, suc}
 use lib.IntN.{ℤ, pos}
 use lib.Seq.{getD-set-other}
 use Rattle.affine.specs.declared.Row.{Row}
-use Rattle.affine.specs.declared.Status.the-variants.{Accepted, SpanPassed}
+use Rattle.affine.specs.declared.Status.the-variants.{Accepted}
 use Rattle.affine.specs.Limits.{symbols, pairs}
 use Rattle.affine.specs.Lists.{pick, at, tabulate}
 use Rattle.affine.specs.PairOrder.{inUse}
-use Rattle.affine.specs.Row.{withinSpan, formRange}
-use Rattle.affine.specs.Steps.{accepted, refused, checked}
+use Rattle.affine.specs.Row.{formRange}
+use Rattle.affine.specs.Steps.{checked}
 use Rattle.affine.specs.Product.{linearTotals, pairTotals, productRow}
 use Rattle.affine.specs.Agreement.{Place, centre, symbol, pair, numberAt, named, AgreeAt, Numbers-agree}
-use Rattle.affine.proofs.Lists.{pick-elim}
+use Rattle.affine.proofs.Answers.{checked-accepted}
 
 -- the row of an accepted answer is the row that was tested
 accepted-row : (r : Row) → checked r .status ≡ Accepted → checked r .row ≡ r
-accepted-row r =
-    pick-elim (λ a. a .status ≡ Accepted → a .row ≡ r) (withinSpan r) (accepted r (formRange r)) (refused SpanPassed) (λ t e. refl) (λ t e. cc)
+accepted-row r e = ap (λ a. a .row) (checked-accepted r (formRange r) e)
 
 -- the number at index i of a list that is tabulated and then mapped comes from the function's value at i alone
 at-mapped : (q : ℤ → ℤ) (n : ℕ) (f g : ℕ → ℤ) (i : ℕ) → f i ≡ g i → at (map q (tabulate n f)) i ≡ at (map q (tabulate n g)) i

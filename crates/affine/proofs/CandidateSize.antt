@@ -42,26 +42,28 @@ slope-size n c v h k hc hv some =
       fits = fits-within (slope c v) (unitSquared * n) q h;
     }
 
--- a coefficient p of a pair, and the products that meet in the pair with the sign turned, divided by c
-pub record CurveSize (n m : ℕ) (c p met : ℤ) : Type 0 where
+-- products that meet in a pair, at most m, with the sign turned and divided by c
+pub record BendSize (m : ℕ) (c met : ℤ) : Type 0 where
   pub turned-fits : SFits w64 (negℤ met)
   pub centre-some : c ≢ pos 0
-  pub quotient-fits : SFits w64 (floorQuotient (negℤ met) c)
-  pub within : natAbs (slope c p +ℤ floorQuotient (negℤ met) c) ≤ unitSquared * n + m
-  pub fits : SFits w64 (slope c p +ℤ floorQuotient (negℤ met) c)
+  pub within : natAbs (floorQuotient (negℤ met) c) ≤ m
+  pub fits : SFits w64 (floorQuotient (negℤ met) c)
 
-pub curve-size : (n m : ℕ) (c p met : ℤ) → unitSquared * n + m < 2 ^ 63 → SlopeSize n c p → natAbs met ≤ m → 0 < natAbs c → CurveSize n m c p met
-curve-size n m c p met h s hm some =
+pub bend-size : (m : ℕ) (c met : ℤ) → m < 2 ^ 63 → natAbs met ≤ m → 0 < natAbs c → BendSize m c met
+bend-size m c met h hm some =
     let t : natAbs (negℤ met) ≤ m = rw natAbs-neg hm in
     let q : natAbs (floorQuotient (negℤ met) c) ≤ m = omega (arith, natAbs-quotient (negℤ met) c) in
-    let w = natAbs-add-within (slope c p) (floorQuotient (negℤ met) c) (s .within) q in
     record {
-      turned-fits = fits-within (negℤ met) m t (omega arith);
+      turned-fits = fits-within (negℤ met) m t h;
       centre-some = not-zero c some;
-      quotient-fits = fits-within (floorQuotient (negℤ met) c) m q (omega arith);
-      within = w;
-      fits = fits-within (slope c p +ℤ floorQuotient (negℤ met) c) (unitSquared * n + m) w h;
+      within = q;
+      fits = fits-within (floorQuotient (negℤ met) c) m q h;
     }
+
+-- and with the slope of the pair's coefficient p added
+pub curve-size : {n m : ℕ} {c p met : ℤ} → SlopeSize n c p → BendSize m c met
+    → natAbs (slope c p +ℤ floorQuotient (negℤ met) c) ≤ unitSquared * n + m
+curve-size {c = c} {p = p} {met = met} s b = natAbs-add-within (slope c p) (floorQuotient (negℤ met) c) (s .within) (b .within)
 
 -- ---- where the coefficient is at most the centre
 slope-product : (c v : ℤ) → 0 < natAbs c → natAbs v ≤ natAbs c → natAbs (slope c v) * natAbs c < unitSquared + natAbs c

@@ -13,8 +13,8 @@ use Rattle.integer.proofs.Certificate.{OrderedRing}
 use Rattle.integer.proofs.Bound.{Bound, bound-add, bound-mul, bound-cong, bound-whole}
 use Rattle.affine.specs.declared.Row.{Row}
 use Rattle.affine.specs.PairOrder.{firstOf, secondOf}
-use Rattle.affine.specs.Row.{numbers, span}
-use Rattle.affine.specs.Product.{radius, squaredRadius, dropped}
+use Rattle.affine.specs.Row.{numbers, span, radius}
+use Rattle.affine.specs.Product.{squaredRadius, dropped}
 use Rattle.integer.proofs.Sum.{sumAbs-append, dot, dot-path, dot-append, dot-within}
 use Rattle.affine.proofs.Form.{pairValue, noise, units, squaredNoise}
 

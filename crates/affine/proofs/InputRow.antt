@@ -1,11 +1,11 @@
--- The numbers of an input's row against its ends: neither operation on the way wraps, nor does its span; the centre is the middle, rounded down; and
--- where the ends do not hold 0 it outweighs the own coefficient.
-use mathlib.Core.Path.{_≡_, sym, subst}
+-- The numbers of an input's row against its ends: no operation on the way wraps; the own coefficient is the only one, so the span is that of two
+-- numbers; the centre is the middle, rounded down; and where the ends do not hold 0 it outweighs the own coefficient.
+use mathlib.Core.Path.{_≡_, sym, ap, subst, _∙_}
 use mathlib.Core.Logic.{_⊎_, inl, inr}
 use Prim.Native.Nat.{ℕ, _+_, _*_, _≤_, _<_}
 use native.Mathlib.Omega.{arith}
 use lib.IntN.{ℤ, pos, negℤ, natAbs, _+ℤ_, _-ℤ_, _*ℤ_}
-use lib.ListN.{replicate}
+use lib.ListN.{replicate, length-replicate, getD-replicate}
 use lib.Signed.{_≤ℤ_}
 use mir.Syntax.{w64}
 use mir.Val.{SFits}
@@ -15,13 +15,14 @@ use Rattle.integer.proofs.Linear.{linℤ, _⊴_, _≗_, _⇒_, so}
 use Rattle.integer.proofs.Order.{≤ℤ-trans, pos-≤ℤ, ≤-of-pos}
 use Rattle.integer.proofs.Absolute.{natAbs-add, natAbs-sub, natAbs-neg, natAbs-of-nonneg, natAbs-within, fits-of-natAbs}
 use Rattle.integer.proofs.Floor.{natAbs-quotient, floor-divides, remainder-is, remainder-nonneg, remainderBy-small}
-use Rattle.affine.specs.Limits.{symbols, spanLimit}
-use Rattle.affine.specs.Row.{span}
-use Rattle.affine.specs.Steps.{constantRow, inputCentre, inputRow, endsRange}
+use Rattle.affine.specs.Limits.{symbols, pairs, spanLimit}
+use Rattle.affine.specs.Lists.{at}
+use Rattle.affine.specs.Row.{span, radius}
+use Rattle.affine.specs.Steps.{inputCentre, inputRow, endsRange}
 use Rattle.affine.specs.Reciprocal.{distance, Outweighs, ApartOutweighs}
-use Rattle.affine.proofs.SumLaws.{sumAbs-set, sumAbs-zeros}
+use Rattle.affine.proofs.SumLaws.{sumAbs-set, sumAbs-set-zero, sumAbs-zeros}
+use Rattle.affine.proofs.RowSize.{span-is-sum}
 use Rattle.affine.proofs.Distance.{distance-is-end}
-use Rattle.affine.proofs.SpanSize.{span-constant, span-own}
 
 module _ (low high : ℤ) (hl : natAbs low ≤ spanLimit) (hh : natAbs high ≤ spanLimit) where
   sum-within : natAbs (low +ℤ high) ≤ spanLimit + spanLimit
@@ -36,13 +37,31 @@ module _ (low high : ℤ) (hl : natAbs low ≤ spanLimit) (hh : natAbs high ≤ 
   pub centre-fits : SFits w64 (inputCentre low high)
   centre-fits = fits-of-natAbs (inputCentre low high) (omega (arith, centre-within))
 
-  pub own-fits : SFits w64 (high -ℤ inputCentre low high)
-  own-fits = fits-of-natAbs (high -ℤ inputCentre low high) (omega (arith, natAbs-sub high (inputCentre low high), centre-within))
+  own-within : natAbs (high -ℤ inputCentre low high) ≤ 3 * spanLimit
+  own-within = omega (arith, natAbs-sub high (inputCentre low high), centre-within)
 
-  pub span-input : (own : ℕ) → span (inputRow own low high) ≤ 5 * spanLimit
-  span-input own =
-      let c = inputCentre low high in
-      omega (arith, span-own own (high -ℤ c) (constantRow c), span-constant c, natAbs-sub high c, centre-within)
+  pub own-fits : SFits w64 (high -ℤ inputCentre low high)
+  own-fits = fits-of-natAbs (high -ℤ inputCentre low high) (omega (arith, own-within))
+
+  pub both-within : natAbs (inputCentre low high) + natAbs (high -ℤ inputCentre low high) ≤ 5 * spanLimit
+  both-within = omega (arith, centre-within, own-within)
+
+-- ---- the own coefficient is the only one: so its absolute value is the radius, and with the centre's the span
+module _ (own : ℕ) (low high : ℤ) (h : own < symbols) where
+  pub radius-input : radius (inputRow own low high) ≡ natAbs (high -ℤ inputCentre low high)
+  unfolding radius
+  radius-input =
+      let none : at (replicate symbols (pos 0)) own ≡ pos 0 = getD-replicate symbols own (pos 0) (pos 0) h in
+      omega (
+        arith,
+        sumAbs-set-zero (replicate symbols (pos 0)) own (high -ℤ inputCentre low high) (omega (arith, length-replicate symbols (pos 0))) none,
+        sumAbs-zeros symbols,
+        sumAbs-zeros pairs,
+      )
+
+  pub span-input : span (inputRow own low high) ≡ natAbs (inputCentre low high) + natAbs (high -ℤ inputCentre low high)
+  unfolding radius
+  span-input = span-is-sum (inputRow own low high) ∙ ap (λ n. natAbs (inputCentre low high) + n) radius-input
 
 -- ---- the centre is not above the middle, and less than a unit below it
 centre-divides : (low high : ℤ) → inputCentre low high *ℤ pos 2 +ℤ floorRemainder (low +ℤ high) (pos 2) ≡ low +ℤ high

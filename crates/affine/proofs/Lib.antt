@@ -1,10 +1,13 @@
 pub mod Lists
 pub mod Fill
 pub mod SumLaws
+pub mod PutSoFar
 pub mod CappedLaws
 pub mod Answers
 pub mod PairOrder
 pub mod PairSymbols
+pub mod PairIndex
+pub mod Columns
 pub mod RowSize
 pub mod RangeSize
 pub mod Termwise

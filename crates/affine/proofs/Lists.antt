@@ -1,12 +1,13 @@
 -- Laws of choices, and of lists by index: what a tabulated list holds. By induction on its length.
-use mathlib.Core.Path.{_≡_, refl, sym, ap, ap₂, _∙_}
+use mathlib.Core.Path.{_≡_, refl, ap, ap₂}
 use mathlib.Core.Bool.{Bool, true, false}
 use mathlib.Core.List.{List, [], _∷_, map}
+use mathlib.Core.Logic.{_≢_}
 use Prim.Native.Nat.{ℕ, zero, suc, _<_}
 use native.Mathlib.Nat.{le-of-suc-le-suc, not-suc-le-zero}
 use native.Mathlib.Omega.{arith}
 use lib.IntN.{ℤ, pos}
-use lib.ListN.{length, getD}
+use lib.ListN.{length, getD, set, replicate}
 use Rattle.affine.specs.Lists.{pick, at, tabulate}
 
 -- what holds of both sides of a choice, each under its test, holds of the choice
@@ -24,10 +25,6 @@ unfolding tabulate
 getD-tabulate zero f d i h = absurd (not-suc-le-zero h)
 getD-tabulate (suc n) f d zero h = refl
 getD-tabulate (suc n) f d (suc i) h = getD-tabulate n (λ i. f (suc i)) d i (le-of-suc-le-suc h)
-
--- a function that tabulates a list gives what stands at each index of it
-pub tabulated-at : {A : Type 0} (n : ℕ) (f : ℕ → A) (d : A) (xs : List A) → tabulate n f ≡ xs → (i : ℕ) → i < n → f i ≡ getD xs i d
-tabulated-at n f d xs e i h = sym (getD-tabulate n f d i h) ∙ ap (λ l. getD l i d) e
 
 pub at-tabulate : (n : ℕ) (f : ℕ → ℤ) (i : ℕ) → i < n → at (tabulate n f) i ≡ f i
 at-tabulate n f i h = getD-tabulate n f (pos 0) i h
@@ -56,3 +53,18 @@ tabulate-at [] zero h = refl
 tabulate-at [] (suc n) h = absurd (omega arith)
 tabulate-at (x ∷ xs) zero h = absurd (omega arith)
 tabulate-at (x ∷ xs) (suc n) h = ap (λ ys. x ∷ ys) (tabulate-at xs n (omega arith))
+
+pub replicate-tabulate : {A : Type 0} (n : ℕ) (a : A) → replicate n a ≡ tabulate n (λ i. a)
+unfolding tabulate
+replicate-tabulate zero a = refl
+replicate-tabulate (suc n) a = ap (λ xs. a ∷ xs) (replicate-tabulate n a)
+
+-- one element changed: a list tabulated by a function that differs only there
+pub set-tabulate : {A : Type 0} (n : ℕ) (f g : ℕ → A) (k : ℕ) (v : A) → k < n → v ≡ g k → ((i : ℕ) → i < n → i ≢ k → f i ≡ g i)
+    → set (tabulate n f) k v ≡ tabulate n g
+unfolding tabulate
+set-tabulate zero f g k v h e others = absurd (not-suc-le-zero h)
+set-tabulate (suc n) f g zero v h e others = ap₂ (λ x xs. x ∷ xs) e (tabulate-cong n (λ i l. others (suc i) (omega arith) (omega arith)))
+set-tabulate (suc n) f g (suc k) v h e others =
+    ap₂ (λ x xs. x ∷ xs) (others 0 (omega arith) (omega arith))
+    (set-tabulate n (λ i. f (suc i)) (λ i. g (suc i)) k v (le-of-suc-le-suc h) e (λ i l d. others (suc i) (omega arith) (omega arith)))

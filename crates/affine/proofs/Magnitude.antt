@@ -20,8 +20,8 @@ use Rattle.affine.specs.Lists.{pick, at, tabulate}
 use Rattle.affine.specs.declared.Row.{Row}
 use Rattle.affine.specs.Limits.{symbols, pairs, paired}
 use Rattle.affine.specs.PairOrder.{overPairs, firstOf, secondOf, inUse}
-use Rattle.affine.specs.Row.{span}
-use Rattle.affine.specs.Product.{meeting, crosswise, linearTotals, pairTotals, radius, squaredRadius, dropped}
+use Rattle.affine.specs.Row.{span, radius}
+use Rattle.affine.specs.Product.{meeting, crosswise, linearTotals, pairTotals, squaredRadius, dropped}
 use Rattle.affine.proofs.Lists.{pick-elim}
 use Rattle.affine.proofs.PairSymbols.{tabulate-pairs}
 use Rattle.affine.proofs.RowSize.{span-is-sum, centre-within}
@@ -59,14 +59,6 @@ pub meeting-within : {m n : ℕ} (a b : List ℤ) → 2 * (m * n) < 2 ^ 63 → (
     → (i j : ℕ) → natAbs (meeting a b i j) ≤ 2 * (m * n)
 meeting-within {m} {n} a b h ha hb i j =
     one-or-both-within (eqb i j) (two-products m n (at a i) (at b j) (at a j) (at b i) h (ha i) (hb j) (ha j) (hb i))
-
--- ---- radii
-squared-within-radius : (squares : ℕ) (r : Row) → squaredRadius squares r ≤ radius r
-unfolding radius squaredRadius
-squared-within-radius squares r = omega (arith, sumAbs-take squares (r .linear))
-
-pub kept-within-radii : (squares : ℕ) (x y : Row) → squaredRadius squares x * squaredRadius squares y ≤ radius x * radius y
-kept-within-radii squares x y = mul-le-mul (squared-within-radius squares x) (squared-within-radius squares y)
 
 -- one symbol more: its product with itself, those with the others, and the rest
 square-of-sums : (a u b v : ℕ) {x y z : ℕ} → x ≤ a * b → y ≤ a * v + b * u → z ≤ u * v → x + (y + z) ≤ (a + u) * (b + v)

@@ -70,6 +70,10 @@ sumAbs-tabulate-within (suc n) f g h a b l =
     let rest = sumAbs-tabulate-within n (λ i. f (suc i)) (λ i. g (suc i)) (λ i. h (suc i)) a b (λ i. l (suc i)) in
     rw (mul-add a (natAbs (g 0)), mul-add b (natAbs (h 0))) (omega arith)
 
+-- each at most its number in the other list
+pub sumAbs-tabulate-le : (n : ℕ) (f g : ℕ → ℤ) → ((i : ℕ) → natAbs (f i) ≤ natAbs (g i)) → sumAbs (tabulate n f) ≤ sumAbs (tabulate n g)
+sumAbs-tabulate-le n f g h = omega (arith, sumAbs-tabulate-within n f g g 1 0 (λ i. omega (arith, h i)))
+
 -- each at most m
 pub sumAbs-tabulate-each : (n m : ℕ) (f : ℕ → ℤ) → ((i : ℕ) → natAbs (f i) ≤ m) → sumAbs (tabulate n f) ≤ m * n
 unfolding tabulate
@@ -83,6 +87,12 @@ pub sumAbs-set : (xs : List ℤ) (i : ℕ) (v : ℤ) → sumAbs (set xs i v) ≤
 sumAbs-set [] i v = omega arith
 sumAbs-set (x ∷ xs) zero v = omega arith
 sumAbs-set (x ∷ xs) (suc i) v = let rest = sumAbs-set xs i v in omega arith
+
+-- a number put where 0 stood
+pub sumAbs-set-zero : (xs : List ℤ) (i : ℕ) (v : ℤ) → i < length xs → at xs i ≡ pos 0 → sumAbs (set xs i v) ≡ sumAbs xs + natAbs v
+sumAbs-set-zero [] i v h e = absurd (omega arith)
+sumAbs-set-zero (x ∷ xs) zero v h e = let none = ap natAbs e in omega arith
+sumAbs-set-zero (x ∷ xs) (suc i) v h e = let rest = sumAbs-set-zero xs i v (omega arith) e in omega arith
 
 pub sumAbs-map : (f : ℤ → ℤ) → ((z : ℤ) → natAbs (f z) ≤ natAbs z) → (xs : List ℤ) → sumAbs (map f xs) ≤ sumAbs xs
 sumAbs-map f h [] = omega arith

@@ -22,6 +22,7 @@ use Rattle.affine.specs.Steps.{constantRow, withOwn, inputRow, inputCent
 use Rattle.affine.specs.Product.{meeting, linearTotals, pairTotals, totals, productRounding, productRow}
 use Rattle.affine.specs.Reciprocal.{slope, candidateLinear, candidatePair, candidate, reciprocalRow}
 use Rattle.integer.proofs.Sum.{dot-same, dot-change}
+use Rattle.affine.proofs.Candidate.{slope-zero}
 use Rattle.affine.proofs.Form.{Shaped, pairValue, units}
 
 -- a pair that holds symbol n
@@ -111,10 +112,7 @@ product-free n squares own x y d hx hy =
     withOwn-free n own _ (mapRow (productRounding .quotient) (totals squares x y)) d
     (map-free n (productRounding .quotient) (zero-quotient (pos unit)) (totals squares x y) (totals-free n squares x y hx hy))
 
-slope-zero : (c : ℤ) → slope c (pos 0) ≡ pos 0
-slope-zero c = rw *ℤ-zero (zero-quotient (c *ℤ c))
-
-candidateLinear-zero : (x : Row) (n : ℕ) → at (x .linear) n ≡ pos 0 → at (candidateLinear x) n ≡ pos 0
+pub candidateLinear-zero : (x : Row) (n : ℕ) → at (x .linear) n ≡ pos 0 → at (candidateLinear x) n ≡ pos 0
 unfolding candidateLinear
 candidateLinear-zero x n h = at-tabulate-zero symbols _ n (λ l. ap (slope (x .centre)) h ∙ slope-zero (x .centre))
 

@@ -1,39 +1,25 @@
--- The totals of a product by index, and from the parts of the two rows.
-use mathlib.Core.Path.{_≡_, refl, ap₂}
+-- The totals of a product: how many they are, from the parts of the two rows, and where they are 0; the dropped part from the radii of the rows.
+use mathlib.Core.Path.{_≡_, ap₂}
 use mathlib.Core.List.{[]}
-use Prim.Native.Nat.{ℕ, _<_}
-use lib.IntN.{ℤ, pos, _+ℤ_}
-use lib.ListN.{length}
+use Prim.Native.Nat.{ℕ, _-_, _*_, _≤_}
+use lib.IntN.{ℤ, pos, *ℤ-zero}
+use lib.ListN.{length, take}
+use Rattle.integer.specs.Sum.{sumAbs}
 use Rattle.affine.specs.declared.Row.{Row}
 use Rattle.affine.specs.Limits.{symbols, pairs}
-use Rattle.affine.specs.Lists.{pick, at}
-use Rattle.affine.specs.PairOrder.{firstOf, secondOf, inUse}
-use Rattle.affine.specs.Row.{rowOfParts}
-use Rattle.affine.specs.Product.{meeting, crosswise, linearTotals, pairTotals, radius, squaredRadius, dropped}
-use Rattle.affine.proofs.Lists.{length-tabulate, at-tabulate}
+use Rattle.affine.specs.Row.{rowOfParts, radius, NoneFrom}
+use Rattle.affine.specs.Product.{linearTotal, linearTotals, pairTotals, squaredRadius, dropped}
+use Rattle.affine.proofs.Lists.{length-tabulate}
 
 pub length-linear-totals : (x y : Row) → length (linearTotals x y) ≡ symbols
 unfolding linearTotals
 length-linear-totals x y = length-tabulate symbols _
 
-pub linear-total-at : (x y : Row) (i : ℕ) → i < symbols
-    → at (linearTotals x y) i ≡ crosswise (x .centre) (at (y .linear) i) (y .centre) (at (x .linear) i)
-unfolding linearTotals
-linear-total-at x y i h = at-tabulate symbols _ i h
-
 pub length-pair-totals : (squares : ℕ) (x y : Row) → length (pairTotals squares x y) ≡ pairs
 unfolding pairTotals
 length-pair-totals squares x y = length-tabulate pairs _
 
-pub pair-total-at : (squares : ℕ) (x y : Row) (k : ℕ) → k < pairs
-    → at (pairTotals squares x y) k
-    ≡ pick (inUse squares k)
-    (crosswise (x .centre) (at (y .pair) k) (y .centre) (at (x .pair) k) +ℤ meeting (x .linear) (y .linear) (firstOf k) (secondOf k))
-    (pos 0)
-unfolding pairTotals
-pair-total-at squares x y k h = at-tabulate pairs _ k h
-
--- ---- from the parts: the linear totals need no pair coefficients, the dropped part no centres
+-- ---- from the parts: the linear totals need no pair coefficients
 module _ (x y : Row) {c d : ℤ} (e : c ≡ x .centre) (f : d ≡ y .centre) where
   pub linear-totals-of-parts : linearTotals (rowOfParts c (x .linear) []) (rowOfParts d (y .linear) []) ≡ linearTotals x y
   unfolding linearTotals
@@ -44,7 +30,12 @@ module _ (x y : Row) {c d : ℤ} (e : c ≡ x .centre) (f : d ≡ y .centre) whe
   pair-totals-of-parts squares =
       ap₂ (λ c d. pairTotals squares (rowOfParts c (x .linear) (x .pair)) (rowOfParts d (y .linear) (y .pair))) e f
 
-pub dropped-of-parts : (squares : ℕ) (x y : Row)
-    → dropped squares (rowOfParts (pos 0) (x .linear) (x .pair)) (rowOfParts (pos 0) (y .linear) (y .pair)) ≡ dropped squares x y
-unfolding dropped radius squaredRadius
-dropped-of-parts squares x y = refl
+-- the dropped part, from the radii that are handed on
+pub dropped-of-radii : (squares : ℕ) (x y : Row) {m n : ℕ} → m ≡ radius x → n ≡ radius y
+    → m * n - sumAbs (take squares (x .linear)) * sumAbs (take squares (y .linear)) ≡ dropped squares x y
+unfolding dropped squaredRadius
+dropped-of-radii squares x y e f = rw (e, f)
+
+-- symbols of which neither row has a coefficient
+pub linear-total-none : (x y : Row) (own : ℕ) → NoneFrom own (x .linear) → NoneFrom own (y .linear) → (i : ℕ) → own ≤ i → linearTotal x y i ≡ pos 0
+linear-total-none x y own hx hy i l = rw (hx i l, hy i l) (simp *ℤ-zero)

@@ -8,7 +8,7 @@ use Rattle.affine.specs.declared.Row.{Row}
 use Rattle.affine.specs.declared.form_range.Measured.{Measured}
 use Rattle.affine.specs.Limits.{paired}
 use Rattle.affine.specs.Lists.{pick, at}
-use Rattle.affine.specs.Row.{pairBelow, pairAbove, withinSpan, formRange}
+use Rattle.affine.specs.Row.{pairBelow, pairAbove, radius, withinSpan, formRange}
 
 -- how far the term of a pair (i,i) goes above 0, or below it
 abbrev pub squareReach : Bool → ℤ → ℕ
@@ -22,6 +22,9 @@ squaresFrom above p (suc n) k = squareReach above (at p k) + squaresFrom above p
 abbrev pub squaresReach : Bool → List ℤ → ℕ
 squaresReach above p = squaresFrom above p paired 0
 
--- a row within the span limit and the range of its form, or neither
+-- whether a row is within the span limit, its radius, and where it is within, the range of its form
 abbrev pub measured : Row → Measured
-measured r = pick (withinSpan r) (record { within = true; range = formRange r }) (record { within = false; range = record { low = pos 0; high = pos 0 } })
+measured r =
+    pick (withinSpan r)
+    (record { within = true; radius = radius r; range = formRange r })
+    (record { within = false; radius = radius r; range = record { low = pos 0; high = pos 0 } })

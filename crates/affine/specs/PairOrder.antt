@@ -3,9 +3,10 @@ use mathlib.Core.Bool.{Bool}
 use mathlib.Core.List.{List, [], _∷_, _++_}
 use Prim.Native.Nat.{ℕ, zero, suc}
 use lib.Dec.{eqb, ltb}
+use lib.IntN.{ℤ, pos}
 use lib.ListN.{getD}
-use Rattle.affine.specs.Limits.{paired}
-use Rattle.affine.specs.Lists.{tabulate}
+use Rattle.affine.specs.Limits.{paired, pairs}
+use Rattle.affine.specs.Lists.{pick, tabulate}
 
 -- f at the pairs of n symbols: those of the first symbol, with itself and then with each later one, before those of the later symbols
 unfoldable pub overPairs : {A : Type 0} → ℕ → (ℕ → ℕ → A) → List A
@@ -33,3 +34,7 @@ isSquare k = eqb (firstOf k) (secondOf k)
 -- "Pairs are used only among the first "squares" inputs." The second symbol of a pair is never before its first.
 abbrev pub inUse : ℕ → ℕ → Bool
 inUse squares k = ltb (secondOf k) squares
+
+-- a number for each pair: f of its index where the pair is in use, 0 where it is not
+abbrev pub overUsed : ℕ → (ℕ → ℤ) → List ℤ
+overUsed squares f = tabulate pairs (λ k. pick (inUse squares k) (f k) (pos 0))

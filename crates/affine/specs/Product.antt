@@ -8,10 +8,10 @@ use Rattle.integer.specs.Floor.{floorQuotient, floorRemainder, ceilingQuotient}
 use Rattle.integer.specs.Sum.{sumAbs}
 use Rattle.affine.specs.declared.Row.{Row}
 use Rattle.affine.specs.declared.Answer.{Answer}
-use Rattle.affine.specs.Limits.{symbols, pairs, unit}
+use Rattle.affine.specs.Limits.{symbols, unit}
 use Rattle.affine.specs.Lists.{pick, at, tabulate}
-use Rattle.affine.specs.PairOrder.{firstOf, secondOf, inUse}
-use Rattle.affine.specs.Row.{span}
+use Rattle.affine.specs.PairOrder.{firstOf, secondOf, overUsed}
+use Rattle.affine.specs.Row.{span, radius}
 use Rattle.affine.specs.Steps.{withOwn, mapRow, checked}
 
 -- "the linear products that meet in that pair (one for (i,i), two otherwise)"
@@ -23,25 +23,23 @@ abbrev pub crosswise : ℤ → ℤ → ℤ → ℤ → ℤ
 crosswise c b d a = c *ℤ b +ℤ d *ℤ a
 
 -- "With c and d the centres, form these totals: centre cd; for symbol i, c times the second's coefficient plus d times the first's;
+abbrev pub linearTotal : Row → Row → ℕ → ℤ
+linearTotal x y i = crosswise (x .centre) (at (y .linear) i) (y .centre) (at (x .linear) i)
+
 unfoldable pub linearTotals : Row → Row → List ℤ
-linearTotals x y =
-    tabulate symbols (λ i. crosswise (x .centre) (at (y .linear) i) (y .centre) (at (x .linear) i))
+linearTotals x y = tabulate symbols (linearTotal x y)
 
 -- for each pair in use, c and d times the pair coefficients crosswise, plus the linear products that meet in that pair"
+abbrev pub pairTotal : Row → Row → ℕ → ℤ
+pairTotal x y k =
+    crosswise (x .centre) (at (y .pair) k) (y .centre) (at (x .pair) k) +ℤ meeting (x .linear) (y .linear) (firstOf k) (secondOf k)
+
 unfoldable pub pairTotals : ℕ → Row → Row → List ℤ
-pairTotals squares x y =
-    tabulate pairs
-    (λ k. pick (inUse squares k)
-    (crosswise (x .centre) (at (y .pair) k) (y .centre) (at (x .pair) k) +ℤ meeting (x .linear) (y .linear) (firstOf k) (secondOf k))
-    (pos 0))
+pairTotals squares x y = overUsed squares (pairTotal x y)
 
 abbrev pub totals : ℕ → Row → Row → Row
 totals squares x y =
     record { centre = x .centre *ℤ y .centre; linear = linearTotals x y; pair = pairTotals squares x y }
-
--- "all linear and pair absolutes" of a row (the field's term: its radius)
-unfoldable pub radius : Row → ℕ
-radius r = sumAbs (r .linear) + sumAbs (r .pair)
 
 -- "linear absolutes of the first "squares" symbols"
 unfoldable pub squaredRadius : ℕ → Row → ℕ

@@ -12,9 +12,9 @@ use Rattle.affine.specs.declared.Row.{Row}
 use Rattle.affine.specs.declared.Range.{Range}
 use Rattle.affine.specs.declared.Status.the-variants.{SpanPassed, ZeroInRange}
 use Rattle.affine.specs.declared.Answer.{Answer}
-use Rattle.affine.specs.Limits.{symbols, pairs, unitSquared}
+use Rattle.affine.specs.Limits.{symbols, unitSquared}
 use Rattle.affine.specs.Lists.{pick, at, tabulate}
-use Rattle.affine.specs.PairOrder.{firstOf, secondOf, inUse}
+use Rattle.affine.specs.PairOrder.{firstOf, secondOf, overUsed}
 use Rattle.affine.specs.Row.{span, withinSpan}
 use Rattle.affine.specs.Steps.{withOwn, refused, checked}
 use Rattle.affine.specs.Product.{meeting, totals, dropped}
@@ -36,13 +36,13 @@ candidateLinear x = tabulate symbols (λ i. slope (x .centre) (at (x .linear) i)
 
 -- "for each pair in use, (-N × pair coefficient) / c², plus the following, divided by c: for (i,i) minus the candidate's i coefficient
 -- times the operand's; for (i,j) minus both cross products."
+abbrev pub curve : Row → ℕ → ℤ
+curve x k =
+    slope (x .centre) (at (x .pair) k)
+    +ℤ floorQuotient (negℤ (meeting (candidateLinear x) (x .linear) (firstOf k) (secondOf k))) (x .centre)
+
 unfoldable pub candidatePair : ℕ → Row → List ℤ
-candidatePair squares x =
-    tabulate pairs
-    (λ k. pick (inUse squares k)
-    (slope (x .centre) (at (x .pair) k)
-    +ℤ floorQuotient (negℤ (meeting (candidateLinear x) (x .linear) (firstOf k) (secondOf k))) (x .centre))
-    (pos 0))
+candidatePair squares x = overUsed squares (curve x)
 
 -- "Candidate: centre N / c"
 abbrev pub candidate : ℕ → Row → Row

@@ -1,7 +1,8 @@
 -- "A row" (manual, sections 5.1 and 5.3): its numbers, its span, its range.
 use mathlib.Core.Bool.{Bool, true, false}
 use mathlib.Core.List.{List, [], _∷_, _++_}
-use Prim.Native.Nat.{ℕ, suc, _+_}
+use mathlib.Core.Path.{_≡_}
+use Prim.Native.Nat.{ℕ, suc, _+_, _≤_}
 use lib.Dec.{leb}
 use lib.IntN.{ℤ, pos, negsuc, natAbs, _+ℤ_, _-ℤ_}
 use Rattle.integer.specs.Sum.{sumAbs}
@@ -22,6 +23,10 @@ rowOfParts c l p = record { centre = c; linear = l; pair = p }
 -- "Span: the sum of the absolute values of all 52 numbers." (The field's term: the sum of the centre's magnitude and the radius.)
 unfoldable pub span : Row → ℕ
 span r = sumAbs (numbers r)
+
+-- "all linear and pair absolutes" of a row (the field's term: its radius)
+unfoldable pub radius : Row → ℕ
+radius r = sumAbs (r .linear) + sumAbs (r .pair)
 
 -- "It is at most 1,073,741,824 in an accepted row."
 abbrev pub withinSpan : Row → Bool
@@ -67,3 +72,7 @@ high r = r .centre +ℤ pos (sumAbs (r .linear) + pairsAbove (r .pair))
 -- both ends: the range of a row's form
 abbrev pub formRange : Row → Range
 formRange r = record { low = low r; high = high r }
+
+-- ---- what the code asks of the operands of a row (not of the specification): no coefficient of the row's own symbol, or of a later row's
+abbrev pub NoneFrom : ℕ → List ℤ → Type 0
+NoneFrom own l = (i : ℕ) → own ≤ i → at l i ≡ pos 0

@@ -11,7 +11,7 @@ use Rattle.affine.specs.declared.Status.the-variants.{Accepted, SpanPass
 use Rattle.affine.specs.declared.Answer.{Answer}
 use Rattle.affine.specs.Limits.{symbols, pairs}
 use Rattle.affine.specs.Lists.{pick, at, tabulate}
-use Rattle.affine.specs.Row.{withinSpan, formRange}
+use Rattle.affine.specs.Row.{radius, withinSpan, formRange}
 
 -- a row with one centre and no coefficient: "Constant: centre alone."
 abbrev pub constantRow : ℤ → Row
@@ -54,13 +54,13 @@ number Accepted = 0
 number SpanPassed = 6
 number ZeroInRange = 7
 
--- a row and its own range
+-- a row with its radius, and its own range
 abbrev pub accepted : Row → Range → Answer
-accepted r own = record { status = Accepted; row = r; range = own }
+accepted r own = record { status = Accepted; row = r; radius = radius r; range = own }
 
 -- "Beside a refusal every other answer is 0"
 abbrev pub refused : Status → Answer
-refused s = record { status = s; row = constantRow (pos 0); range = record { low = pos 0; high = pos 0 } }
+refused s = record { status = s; row = constantRow (pos 0); radius = 0; range = record { low = pos 0; high = pos 0 } }
 
 -- "span passed, by a new row"
 abbrev pub checkedWith : Row → Range → Answer

@@ -3,7 +3,6 @@
 // `same_numbers` tell of rows.
 mod form_range;
 pub mod limits;
-mod pair_order;
 pub mod product;
 pub mod reciprocal;
 pub mod steps;
@@ -32,9 +31,11 @@ pub enum Status {
     ZeroInRange,
 }
 
-// The answer of an operation: the row and its own range where it was accepted, zeros beside a refusal.
+// The answer of an operation: where it was accepted the row, the sum of its absolute coefficients (its radius) and its own range, zeros beside
+// a refusal.
 pub struct Answer {
     pub status: Status,
     pub row: Row,
+    pub radius: u64,
     pub range: Range,
 }

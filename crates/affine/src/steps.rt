@@ -4,6 +4,7 @@ use crate::Range;
 use crate::Row;
 use crate::Status;
 use crate::limits::PAIRS;
+use crate::limits::SPAN_LIMIT;
 use crate::limits::SYMBOLS;
 ghost use mathlib.Core.Path.{_≡_};
 ghost use Prim.Native.Nat.{_^_, _≤_, _<_};
@@ -13,7 +14,7 @@ ghost use Rattle.integer.specs.Sum.{sumAbs};
 ghost use Rattle.affine.specs.Limits.{symbols, spanLimit};
 ghost use Rattle.affine.specs.declared.Status.the-variants.{SpanPassed};
 ghost use Rattle.affine.specs.Lists.{pick, at, tabulate};
-ghost use Rattle.affine.specs.Row.{span};
+ghost use Rattle.affine.specs.Row.{span, radius};
 ghost use Rattle.affine.specs.Steps.{constantRow, addRows, subtractRows, accepted, refused, checked, inputAnswer};
 
 pub fn constant_row(v: i64) -> Row
@@ -34,18 +35,21 @@ pub fn refusal(status: Status) -> Answer
     Answer {
         status,
         row,
+        radius: 0,
         range: Range { low: 0, high: 0 },
     }
 }
 
-// A row and its own range as the answer, or the refusal where it is not within the span limit.
-fn answer(within: bool, row: Row, range: Range) -> Answer
+// A row with its radius and its own range as the answer, or the refusal where it is not within the span limit.
+fn answer(within: bool, row: Row, row_radius: u64, range: Range) -> Answer
+    requires { ⌜ «row_radius» ≡ radius row ⌝ }
     ensures { λ r. ⌜ r ≡ pick within (accepted row range) (refused SpanPassed) ⌝ }
 {
     if within {
         Answer {
             status: Status::Accepted,
             row,
+            radius: row_radius,
             range,
         }
     } else {
@@ -61,7 +65,7 @@ pub fn check(row: Row) -> Answer
     let c = row.centre;
     let measured = crate::form_range::measure(c, &row.linear, &row.pair);
     let range = measured.range;
-    answer(measured.within, row, range)
+    answer(measured.within, row, measured.radius, range)
 }
 
 pub fn constant(v: i64) -> Answer
@@ -71,16 +75,18 @@ pub fn constant(v: i64) -> Answer
     check(row)
 }
 
-// The row of an input that owns the symbol at index own; its range is its ends.
+// The row of an input that owns the symbol at index own; its range is its ends. It has one coefficient, so nothing is summed.
 pub fn input(own: usize, low: i64, high: i64) -> Answer
     requires { ⌜ (own < symbols) × (natAbs low ≤ spanLimit) × (natAbs high ≤ spanLimit) ⌝ }
     ensures { λ r. ⌜ r ≡ inputAnswer own low high ⌝ }
 {
     let centre = integer::division::floor_quotient(low + high, 2);
+    let v = high - centre;
     let mut row = constant_row(centre);
-    row.linear[own] = high - centre;
-    let measured = crate::form_range::measure(centre, &row.linear, &row.pair);
-    answer(measured.within, row, Range { low, high })
+    row.linear[own] = v;
+    let radius = integer::magnitude::absolute(v);
+    let within = integer::magnitude::absolute(centre) + radius <= SPAN_LIMIT;
+    answer(within, row, radius, Range { low, high })
 }
 
 // Puts the sums of two lists' numbers.

@@ -1,15 +1,13 @@
 // Sums of absolute coefficients, the span test and the comparison of two rows by their numbers.
 use crate::Row;
-use crate::limits::PAIRS;
 use crate::limits::SPAN_LIMIT;
-use crate::limits::SYMBOLS;
 ghost use mathlib.Core.Path.{_≡_};
 ghost use Prim.Native.Nat.{suc, _+_, _^_, _≤_, _<_};
 ghost use lib.IntN.{natAbs};
 ghost use lib.ListN.{length};
 ghost use Rattle.integer.specs.Sum.{sumAbs};
 ghost use Rattle.affine.specs.Limits.{spanLimit};
-ghost use Rattle.affine.specs.Row.{rowOfParts, span, withinSpan, agree};
+ghost use Rattle.affine.specs.Row.{withinSpan, agree};
 ghost use Rattle.affine.specs.Capped.{capped};
 
 // The sum of the absolute values of so many numbers.
@@ -26,22 +24,6 @@ pub fn absolutes(a: &[i64]) -> u64
         i += 1;
     }
     sum
-}
-
-// The sum of all absolute coefficients.
-pub fn row_radius<'a>(l: &'a [i64; SYMBOLS], p: &'a [i64; PAIRS]) -> u64
-    requires { ⌜ sumAbs (now l) + sumAbs (now p) < 2 ^ 64 ⌝ }
-    ensures { λ n. ⌜ n ≡ sumAbs (now (l .entry)) + sumAbs (now (p .entry)) ⌝ }
-{
-    absolutes(l) + absolutes(p)
-}
-
-// The span of a row, by its parts, where the sum does not wrap. `within_span` tests a row of any numbers, at twice the cost.
-pub fn span_of<'a>(c: i64, l: &'a [i64; SYMBOLS], p: &'a [i64; PAIRS]) -> u64
-    requires { ⌜ span (rowOfParts c (now l) (now p)) < 2 ^ 64 ⌝ }
-    ensures { λ n. ⌜ n ≡ span (rowOfParts c (now (l .entry)) (now (p .entry))) ⌝ }
-{
-    integer::magnitude::absolute(c) + row_radius(l, p)
 }
 
 // A sum that stops one above the span limit, so that no row makes it wrap.
@@ -68,7 +50,7 @@ fn capped_absolutes(start: u64, a: &[i64]) -> u64
     sum
 }
 
-// Whether the span of a row, of any 52 numbers at all, is within its limit.
+// Whether the span of a row, of any 52 numbers at all, is within its limit. `form_range::measure` sums plainly where the sum does not wrap.
 pub fn within_span(r: Row) -> bool
     ensures { λ b. ⌜ b ≡ withinSpan r ⌝ }
 {

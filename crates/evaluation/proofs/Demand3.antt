@@ -39,7 +39,8 @@ use Rattle.evaluation.proofs.WorkLaws.{nextRow, rowsUpTo, Went}
 use Rattle.sheet.proofs.Passed.{Passed}
 use Rattle.evaluation.proofs.Made.{row, range, divisor-of}
 use Rattle.evaluation.proofs.RowLines.{rows-few}
-use Rattle.evaluation.proofs.RowFacts.{fact, own, own-is, alone, owned}
+use Rattle.evaluation.proofs.EveryRow.{none-later}
+use Rattle.evaluation.proofs.RowFacts.{own, own-is, alone, owned}
 use Rattle.evaluation.proofs.RowEnclosure.{X, negℚ-cong, in-own, own-apart, row-encloses}
 use Rattle.evaluation.proofs.SoundRows.{row-sound}
 use Rattle.evaluation.proofs.WorkedTable.{WorkedInto, rows-within, ranges-ordered, row-held, range-held}
@@ -144,7 +145,7 @@ module _ (c : Schedule) (pass : Passed c) (x : ℕ → Fraction) (within : Input
   shaped i h = row-sound c (rowsUpTo c i) .shaped
 
   later : (i n : ℕ) → i < count → i < n → FreeOf n (f i)
-  later i n h l = fact c pass x went i h .later n l
+  later i n h l = none-later c i n l
 
   before : (n i : ℕ) → i < n → S n i ≈ φ i
   before n i h = path (symbol-before c x rows n i h)

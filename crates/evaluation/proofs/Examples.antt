@@ -11,9 +11,9 @@ use Rattle.affine.specs.declared.Row.{Row}
 use Rattle.affine.specs.declared.Range.{Range}
 use Rattle.affine.specs.Lists.{pick, at, tabulate, sum}
 use Rattle.affine.specs.PairOrder.{overPairs, firsts, seconds}
-use Rattle.affine.specs.Row.{span, low, high, pairBelow, pairAbove, pairsBelow, pairsAbove}
+use Rattle.affine.specs.Row.{span, low, high, pairBelow, pairAbove, pairsBelow, pairsAbove, radius}
 use Rattle.affine.specs.Steps.{endsRange}
-use Rattle.affine.specs.Product.{linearTotals, pairTotals, radius, squaredRadius, dropped, productOwn, productRow}
+use Rattle.affine.specs.Product.{linearTotals, pairTotals, squaredRadius, dropped, productOwn, productRow}
 use Rattle.affine.specs.Reciprocal.{candidateLinear, candidatePair, errorBound, reciprocalOwn, reciprocalRow}
 use Rattle.sheet.specs.declared.Schedule.{Schedule}
 use Rattle.sheet.specs.declared.Step.{Step}

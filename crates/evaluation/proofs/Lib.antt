@@ -5,6 +5,7 @@ pub mod ExactRows
 pub mod RowLines
 pub mod SoundRows
 pub mod OwnRanges
+pub mod EveryRow
 pub mod Made
 pub mod RowFacts
 pub mod PartLaws

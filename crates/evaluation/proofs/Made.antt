@@ -15,6 +15,7 @@ use Rattle.affine.specs.Row.{formRange}
 use Rattle.affine.specs.Steps.{constantRow, inputRow, addRows, subtractRows, checked}
 use Rattle.affine.specs.Product.{product, productRow}
 use Rattle.affine.specs.Reciprocal.{reciprocal, reciprocalRow, zeroInRange, distance}
+use Rattle.affine.proofs.Answers.{checked-accepted}
 use Rattle.sheet.specs.declared.Step.{Step}
 use Rattle.sheet.specs.declared.Schedule.{Schedule}
 use Rattle.sheet.specs.Lines.{natural, endsAt, stepAt}
@@ -28,7 +29,7 @@ use Rattle.evaluation.proofs.ExactRows.{named-value, input-value, step-
 use Rattle.evaluation.proofs.Induction.{lt-or-ge}
 use Rattle.evaluation.proofs.RowLines.{rowAnswer-input, rowAnswer-step, step-of-row}
 use Rattle.evaluation.proofs.OwnRanges.{noRange, own-at}
-use Rattle.evaluation.proofs.WorkLaws.{nextRow, rowsUpTo, Went, checked-accepted, Inverted, reciprocal-accepted}
+use Rattle.evaluation.proofs.WorkLaws.{nextRow, rowsUpTo, Went, Inverted, reciprocal-accepted}
 
 -- ---- the code of a step
 data Code : ℕ → Type 0 where

@@ -19,6 +19,7 @@ use Rattle.affine.specs.Row.{formRange}
 use Rattle.affine.specs.Steps.{constantRow, inputRow, endsRange}
 use Rattle.affine.specs.Reciprocal.{ApartOutweighs}
 use Rattle.affine.proofs.Lists.{pick-elim, length-tabulate, getD-tabulate}
+use Rattle.affine.proofs.Answers.{checked-accepted}
 use Rattle.affine.proofs.RangeSize.{low-not-above-high, low-within, high-within}
 use Rattle.affine.proofs.InputRow.{input-outweighs}
 use Rattle.affine.proofs.Distance.{form-outweighs}
@@ -29,7 +30,6 @@ use Rattle.evaluation.specs.Work.{rowOf, ownRange, ownRanges, rowAnswer}
 use Rattle.evaluation.proofs.Induction.{lt-or-ge}
 use Rattle.evaluation.proofs.RowLines.{rowAnswer-input, rowAnswer-step, ends-ordered}
 use Rattle.evaluation.proofs.SoundRows.{Sound, step-tells}
-use Rattle.evaluation.proofs.WorkLaws.{checked-accepted}
 
 -- the range that stands for none
 abbrev pub noRange : Range

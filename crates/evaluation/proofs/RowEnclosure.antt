@@ -20,7 +20,7 @@ use Rattle.affine.specs.Row.{formRange}
 use Rattle.affine.specs.Steps.{inputRow, endsRange}
 use Rattle.affine.specs.Product.{productRow}
 use Rattle.affine.specs.Reciprocal.{zeroInRange, distance, reciprocalRow}
-use Rattle.affine.proofs.Form.{Shaped, UsesOnly, units}
+use Rattle.affine.proofs.Form.{Shaped, units}
 use Rattle.affine.proofs.FormBounds.{Unit-symbols}
 use Rattle.affine.proofs.StepLaws.{constant-exact, add-exact, subtract-exact, input-encloses}
 use Rattle.affine.proofs.Distance.{distance-is-end}
@@ -37,7 +37,8 @@ use Rattle.evaluation.proofs.OwnRanges.{own-cases}
 use Rattle.evaluation.proofs.WorkLaws.{rowsUpTo, Went}
 use Rattle.evaluation.proofs.Made.{Made, is-input, is-constant, is-sum, is-difference, is-product, is-reciprocal, row, range, value, made}
 use Rattle.evaluation.proofs.RowLines.{rows-few, squares-few}
-use Rattle.evaluation.proofs.RowFacts.{fact, own, own-is}
+use Rattle.evaluation.proofs.EveryRow.{uses-only}
+use Rattle.evaluation.proofs.RowFacts.{own, own-is}
 use Rattle.evaluation.proofs.SoundRows.{row-sound}
 use Rattle.evaluation.proofs.FractionUnits.{scaled, scaled-inUnits, scaled-above, scaled-below}
 
@@ -148,19 +149,16 @@ module _ (c : Schedule) (passed : Passed c) (x : ℕ → Fraction) (within : Inp
         enclosed e v
         (subst (λ z. Bound orderedFractions (scaled (value c passed x i *ℚ value c passed x j) -ℚ units ringOfFractions (productRow squares n (f i) (f j)) ε) (whole z))
         (sym (product-own squares n (f i) (f j) here))
-        (product-encloses orderedFractions ε unital squares (squares-few c passed) (f i) (f j) (shape i hi) (shape j hj) (uses i hi) (uses j hj) n off
+        (product-encloses orderedFractions ε unital squares (squares-few c passed) (f i) (f j) (shape i hi) (shape j hj) (uses-only c i) (uses-only c j) n off
         (scaled (value c passed x i *ℚ value c passed x j))
         (≈-trans (ring ringOfFractions 3 (λ u a b. u ⊗ (u ⊗ (a ⊗ b)) ≐ (u ⊗ a) ⊗ (u ⊗ b)) tt _ _ _) (*ℚ-cong (same i hi) (same j hj)))))
-      where
-        uses : (i : ℕ) → i < n → UsesOnly squares (f i)
-        uses i l = fact c passed x went i (omega arith) .uses
     by-origin (is-reciprocal l i hi a e v) =
         enclosed e v
         (subst (λ z. Bound orderedFractions (scaled (reciprocal (value c passed x i)) -ℚ units ringOfFractions (reciprocalRow squares n (f i) (distance (g i))) ε) (whole z))
         (sym (reciprocal-own squares n (f i) (distance (g i)) here))
         (reciprocal-encloses orderedFractions ε unital (f i) (shape i hi) (g i) a
         (le-cong orderedFractions (≈-refl _) (same i hi) (lies .from)) (le-cong orderedFractions (same i hi) (≈-refl _) (lies .to))
-        squares (squares-few c passed) (fact c passed x went i (omega arith) .uses) n off
+        squares (squares-few c passed) (uses-only c i) n off
         (scaled (reciprocal (value c passed x i))) inverse))
       where
         lies : Lies (X i) (g i)

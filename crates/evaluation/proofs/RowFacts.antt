@@ -1,4 +1,4 @@
--- What holds of every row of accepted work: its pairs, the symbols on which it depends, and its own coefficient.
+-- What holds of every row of accepted work: its own coefficient, and the symbols on which it does not depend.
 use mathlib.Core.Path.{_≡_, refl, sym, ap, _∙_, subst}
 use mathlib.Core.Logic.{_≢_, _⊎_, inl, inr}
 use Prim.Native.Nat.{ℕ, _≤_, _<_}
@@ -15,9 +15,8 @@ use Rattle.affine.specs.Limits.{symbols}
 use Rattle.affine.specs.Lists.{at}
 use Rattle.affine.specs.Steps.{constantRow, addRows, subtractRows}
 use Rattle.affine.specs.Reciprocal.{distance}
-use Rattle.affine.proofs.Form.{UsesOnly}
 use Rattle.affine.proofs.Support.{FreeOf, NoPairOf, constant-free, input-free, zip-free, product-free, reciprocal-free}
-use Rattle.affine.proofs.WellFormed.{constant-uses, input-uses, zip-uses, product-uses, reciprocal-uses, input-own, input-own-nonneg, product-own, reciprocal-own, free-no-pair, input-no-pair, product-no-pair, reciprocal-no-pair}
+use Rattle.affine.proofs.WellFormed.{input-own, input-own-nonneg, product-own, reciprocal-own, free-no-pair, input-no-pair, product-no-pair, reciprocal-no-pair}
 use Rattle.sheet.specs.declared.Schedule.{Schedule}
 use Rattle.sheet.specs.Lines.{natural, endsAt}
 use Rattle.sheet.proofs.Passed.{Passed}
@@ -25,6 +24,7 @@ use Rattle.evaluation.specs.Work.{rowCount}
 use Rattle.evaluation.proofs.Sequence.{complete}
 use Rattle.evaluation.proofs.Induction.{lt-or-ge}
 use Rattle.evaluation.proofs.WorkLaws.{Went}
+use Rattle.evaluation.proofs.EveryRow.{none-later}
 use Rattle.evaluation.proofs.Made.{Made, is-input, is-constant, is-sum, is-difference, is-product, is-reciprocal, row, range, made}
 use Rattle.evaluation.proofs.RowLines.{rows-few, ends-ordered}
 
@@ -53,45 +53,8 @@ module _ (c : Schedule) (passed : Passed c) (x : ℕ → Fraction) (went : Went 
   origin : (n : ℕ) → n < count → Made c passed x n
   origin n h = made c passed x went n h
 
-  -- ---- pairs, and symbols of later rows
-  pub record Fact (n : ℕ) : Type 0 where
-    pub uses : UsesOnly squares (f n)
-    pub later : (m : ℕ) → n < m → FreeOf m (f n)
-
   apart : {n m : ℕ} → n < m → m ≢ n
   apart {n} {m} l e = absurd (let h : n < n = subst (λ k. n < k) e l in omega arith)
-
-  fact-of : (n : ℕ) {r : Row} → f n ≡ r → UsesOnly squares r → ((m : ℕ) → n < m → FreeOf m r) → Fact n
-  fact-of n e u l =
-      record {
-        uses = subst (UsesOnly squares) (sym e) u;
-        later = λ m h. subst (FreeOf m) (sym e) (l m h);
-      }
-
-  pub fact : (n : ℕ) → n < count → Fact n
-  fact = complete (λ n. n < count → Fact n) (λ n ih h. by-origin n h ih (origin n h))
-    where
-      by-origin : (n : ℕ) → n < count → ((i : ℕ) → i < n → i < count → Fact i) → Made c passed x n → Fact n
-      by-origin n h ih (is-input l e v) =
-          fact-of n e (input-uses squares n (endsAt c n .low) (endsAt c n .high))
-          (λ m k. input-free m n (endsAt c n .low) (endsAt c n .high) (apart k))
-      by-origin n h ih (is-constant l v e q) = fact-of n e (constant-uses squares v) (λ m k. constant-free m v)
-      by-origin n h ih (is-sum l i j hi hj e v) =
-          fact-of n e (zip-uses squares plus refl (f i) (f j) (ih i hi (omega arith) .uses) (ih j hj (omega arith) .uses))
-          (λ m k. zip-free m plus refl (f i) (f j) (ih i hi (omega arith) .later m (omega arith)) (ih j hj (omega arith) .later m (omega arith)))
-      by-origin n h ih (is-difference l i j hi hj e v) =
-          fact-of n e (zip-uses squares less refl (f i) (f j) (ih i hi (omega arith) .uses) (ih j hj (omega arith) .uses))
-          (λ m k. zip-free m less refl (f i) (f j) (ih i hi (omega arith) .later m (omega arith)) (ih j hj (omega arith) .later m (omega arith)))
-      by-origin n h ih (is-product l i j hi hj e v) =
-          fact-of n e (product-uses squares n (f i) (f j))
-          (λ m k. product-free m squares n (f i) (f j) (apart k) (ih i hi (omega arith) .later m (omega arith)) (ih j hj (omega arith) .later m (omega arith)))
-      by-origin n h ih (is-reciprocal l i hi a e v) =
-          fact-of n e (reciprocal-uses squares n (f i) (distance (g i)))
-          (λ m k. reciprocal-free m squares n (f i) (distance (g i)) (apart k) (ih i hi (omega arith) .later m (omega arith)))
-
-  -- an earlier row does not depend on the symbol of a later one
-  earlier-free : (n i : ℕ) → n < count → i < n → FreeOf n (f i)
-  earlier-free n i h l = fact i (omega arith) .later n l
 
   -- ---- the own coefficient
   abbrev pub own : ℕ → ℕ
@@ -111,8 +74,8 @@ module _ (c : Schedule) (passed : Passed c) (x : ℕ → Fraction) (went : Went 
           subst (λ z. pos 0 ≤ℤ z) (sym (ap (λ r. at (r .linear) n) e ∙ input-own n (endsAt c n .low) (endsAt c n .high) here))
           (input-own-nonneg (endsAt c n .low) (endsAt c n .high) (ends-ordered c passed n l))
       by-origin (is-constant l v e q) = natural-own e (constant-free n v .linear)
-      by-origin (is-sum l i j hi hj e v) = natural-own e (zip-free n plus refl (f i) (f j) (earlier-free n i h hi) (earlier-free n j h hj) .linear)
-      by-origin (is-difference l i j hi hj e v) = natural-own e (zip-free n less refl (f i) (f j) (earlier-free n i h hi) (earlier-free n j h hj) .linear)
+      by-origin (is-sum l i j hi hj e v) = natural-own e (zip-free n plus refl (f i) (f j) (none-later c i n hi) (none-later c j n hj) .linear)
+      by-origin (is-difference l i j hi hj e v) = natural-own e (zip-free n less refl (f i) (f j) (none-later c i n hi) (none-later c j n hj) .linear)
       by-origin (is-product l i j hi hj e v) = natural-own e (product-own squares n (f i) (f j) here)
       by-origin (is-reciprocal l i hi a e v) = natural-own e (reciprocal-own squares n (f i) (distance (g i)) here)
 
@@ -126,10 +89,10 @@ module _ (c : Schedule) (passed : Passed c) (x : ℕ → Fraction) (went : Went 
       by-origin : Made c passed x n → NoPairOf n (f n)
       by-origin (is-input l e v) = subst (NoPairOf n) (sym e) (input-no-pair n n (endsAt c n .low) (endsAt c n .high))
       by-origin (is-constant l v e q) = subst (NoPairOf n) (sym e) (free-no-pair n (constantRow v) (constant-free n v))
-      by-origin (is-sum l i j hi hj e v) = subst (NoPairOf n) (sym e) (free-no-pair n (addRows (f i) (f j)) (zip-free n plus refl (f i) (f j) (earlier-free n i h hi) (earlier-free n j h hj)))
-      by-origin (is-difference l i j hi hj e v) = subst (NoPairOf n) (sym e) (free-no-pair n (subtractRows (f i) (f j)) (zip-free n less refl (f i) (f j) (earlier-free n i h hi) (earlier-free n j h hj)))
-      by-origin (is-product l i j hi hj e v) = subst (NoPairOf n) (sym e) (product-no-pair n squares n (f i) (f j) (earlier-free n i h hi) (earlier-free n j h hj))
-      by-origin (is-reciprocal l i hi a e v) = subst (NoPairOf n) (sym e) (reciprocal-no-pair n squares n (f i) (distance (g i)) (earlier-free n i h hi))
+      by-origin (is-sum l i j hi hj e v) = subst (NoPairOf n) (sym e) (free-no-pair n (addRows (f i) (f j)) (zip-free n plus refl (f i) (f j) (none-later c i n hi) (none-later c j n hj)))
+      by-origin (is-difference l i j hi hj e v) = subst (NoPairOf n) (sym e) (free-no-pair n (subtractRows (f i) (f j)) (zip-free n less refl (f i) (f j) (none-later c i n hi) (none-later c j n hj)))
+      by-origin (is-product l i j hi hj e v) = subst (NoPairOf n) (sym e) (product-no-pair n squares n (f i) (f j) (none-later c i n hi) (none-later c j n hj))
+      by-origin (is-reciprocal l i hi a e v) = subst (NoPairOf n) (sym e) (reciprocal-no-pair n squares n (f i) (distance (g i)) (none-later c i n hi))
 
   -- "A symbol whose own coefficient is 0 has coefficient 0 in every row"
   pub owned : (n m : ℕ) → n < count → m < count → own m ≡ 0 → FreeOf m (f n)
@@ -146,7 +109,7 @@ module _ (c : Schedule) (passed : Passed c) (x : ℕ → Fraction) (went : Went 
           subst (FreeOf m) (sym e) (reciprocal-free m squares n (f i) (distance (g i)) (λ q. apart k (sym q)) (ih i hi (omega arith)))
 
       by-place : (n : ℕ) → n < count → ((i : ℕ) → i < n → i < count → FreeOf m (f i)) → (n < m) ⊎ (m ≤ n) → FreeOf m (f n)
-      by-place n h ih (inl l) = fact n h .later m l
+      by-place n h ih (inl l) = none-later c n m l
       by-place n h ih (inr l) = beyond (eq-or-lt-of-le l)
         where
           beyond : (m ≡ n) ⊎ (m < n) → FreeOf m (f n)

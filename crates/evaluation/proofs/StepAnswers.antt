@@ -6,12 +6,13 @@ use Prim.Native.Nat.{ℕ, _+_, _*_, _-_, _≤_, _<_}
 use native.Mathlib.Omega.{arith}
 use borrow.Author.Tests.{ne-eqb}
 use lib.IntN.{ℤ, pos}
-use lib.ListN.{length}
+use lib.ListN.{length, getD}
 use Rattle.affine.specs.declared.Row.{Row}
 use Rattle.affine.specs.declared.Range.{Range}
 use Rattle.affine.specs.declared.Answer.{Answer}
 use Rattle.affine.specs.Limits.{spanLimit}
-use Rattle.affine.specs.Row.{span}
+use Rattle.affine.specs.Lists.{at}
+use Rattle.affine.specs.Row.{span, radius, NoneFrom}
 use Rattle.affine.specs.Steps.{constantRow, checked, inputAnswer}
 use Rattle.affine.specs.Reciprocal.{reciprocal, ApartOutweighs}
 use Rattle.affine.proofs.Lists.{length-tabulate, getD-tabulate}
@@ -20,7 +21,7 @@ use Rattle.sheet.specs.declared.Schedule.{Schedule}
 use Rattle.sheet.specs.Lines.{natural, endsAt, stepAt}
 use Rattle.sheet.specs.Limits.{lastCode}
 use Rattle.sheet.proofs.Passing.{Natural}
-use Rattle.evaluation.specs.Table.{rowWidth, rangeWidth, rowAt, rangeAt, rowsIn, rangesIn, RowsWithin, RangesOf}
+use Rattle.evaluation.specs.Table.{rowWidth, rangeWidth, rowAt, rangeAt, rowsIn, rangesIn, RowsWithin, Operands, RangesOf}
 use Rattle.evaluation.specs.Work.{ownRanges, namedRow, namedRange, binaryAnswer, stepAnswer, rowAnswer}
 use Rattle.evaluation.proofs.RowLines.{rowAnswer-input, rowAnswer-step}
 use Rattle.evaluation.proofs.OwnRanges.{noRange}
@@ -44,6 +45,17 @@ module _ {table : List ℤ} {n k : ℕ} (within : RowsWithin table n) (earlier :
 
   pub read-span : {x : Row} → x ≡ rowAt table k → span x ≤ spanLimit
   read-span read = subst (λ r. span r ≤ spanLimit) (sym read) (within .spans k earlier)
+
+-- such a row as an operand of the row with index n, and its radius
+module _ {table : List ℤ} {radii : List ℕ} {n k : ℕ} (operands : Operands table radii n) (earlier : k < n) where
+  pub read-radius-room : k < length radii
+  read-radius-room = omega (arith, operands .room, earlier)
+
+  pub read-radius : {x : Row} → x ≡ rowAt table k → getD radii k 0 ≡ radius x
+  read-radius read = operands .radius-at k earlier ∙ ap radius (sym read)
+
+  pub read-none : {x : Row} → x ≡ rowAt table k → NoneFrom n (x .linear)
+  read-none read m l = subst (λ r. at (r .linear) m ≡ pos 0) (sym read) (operands .none-later k earlier m (omega (arith, earlier, l)))
 
 -- a range read from the first n of the second
 pub read-range-room : {table ranges : List ℤ} {n k : ℕ} → RangesOf table ranges n → k < n → rangeWidth * k + rangeWidth ≤ length ranges

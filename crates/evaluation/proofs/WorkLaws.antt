@@ -16,8 +16,9 @@ use Rattle.affine.specs.declared.Status.the-variants.{Accepted, SpanPassed, Zer
 use Rattle.affine.specs.declared.Answer.{Answer}
 use Rattle.affine.specs.Lists.{pick}
 use Rattle.affine.specs.Row.{withinSpan, formRange}
-use Rattle.affine.specs.Steps.{checked, checkedWith, number, refused, accepted as acceptedRow}
+use Rattle.affine.specs.Steps.{checked, number, refused}
 use Rattle.affine.specs.Reciprocal.{zeroInRange, distance, candidate, reciprocalRow, reciprocalApart, reciprocal}
+use Rattle.affine.proofs.Answers.{checked-accepted}
 use Rattle.sheet.specs.declared.Schedule.{Schedule}
 use Rattle.sheet.specs.Causes.{refusal, accepted}
 use Rattle.evaluation.specs.Work.{Worked, onward, stopped, withAnswer, worked, rowAnswer}
@@ -86,13 +87,6 @@ went c (suc n) h = by-test (eqb (worked c n .refusal .number) 0) refl refl h (λ
     by-test true e q h ih = went-on c n (ih (eqb-true _ _ e)) h q
 
 -- ---- what an accepted answer holds
-pub checked-accepted : (r : Row) (own : Range) → checkedWith r own .status ≡ Accepted → checkedWith r own ≡ acceptedRow r own
-checked-accepted r own h = by-test (withinSpan r) h
-  where
-    by-test : (t : Bool) → pick t (acceptedRow r own) (refused SpanPassed) .status ≡ Accepted → pick t (acceptedRow r own) (refused SpanPassed) ≡ acceptedRow r own
-    by-test true h = refl
-    by-test false h = absurd (let z : number SpanPassed ≡ number Accepted = ap number h in omega arith)
-
 pub record Inverted (squares own : ℕ) (x : Row) (range : Range) : Type 0 where
   pub apart : zeroInRange range ≡ false
   pub row : reciprocal squares own x range .row ≡ reciprocalRow squares own x (distance range)

@@ -1,23 +1,24 @@
 -- What two tables hold while rows are worked into one and their ranges into the other: the rows and ranges so far, each where it was put, and
--- behind them what stood there before.
+-- behind them what stood there before. And what the list of the rows' radii holds.
 use mathlib.Core.Path.{_≡_, refl, sym, ap, ap₂, _∙_, subst}
+use mathlib.Core.Logic.{_⊎_, inl, inr}
 use mathlib.Core.List.{List, [], _∷_, _++_}
 use Prim.Native.Nat.{ℕ, zero, suc, _+_, _-_, _*_, _≤_, _<_}
-use native.Mathlib.Nat.{add-zero, add-suc}
+use native.Mathlib.Nat.{add-zero, add-suc, not-suc-le-zero, eq-or-lt-of-le, le-of-suc-le-suc}
 use native.Mathlib.Numerals.{add-one}
 use native.Mathlib.Omega.{arith}
 use borrow.Author.Tests.{eq-eqb, ne-eqb}
 use lib.IntN.{ℤ, pos}
-use lib.ListN.{length, getD}
-use lib.Seq.{paste, ext-getD}
+use lib.ListN.{length, getD, set, length-set}
+use lib.Seq.{paste, ext-getD, getD-set-same, getD-set-other}
 use lib.Signed.{_≤ℤ_}
 use Rattle.affine.specs.declared.Row.{Row}
 use Rattle.affine.specs.declared.Range.{Range}
 use Rattle.affine.specs.declared.Answer.{Answer}
 use Rattle.affine.specs.declared.Status.the-variants.{Accepted}
-use Rattle.affine.specs.Limits.{spanLimit}
-use Rattle.affine.specs.Lists.{tabulate}
-use Rattle.affine.specs.Row.{numbers, span}
+use Rattle.affine.specs.Limits.{symbols, spanLimit}
+use Rattle.affine.specs.Lists.{at, tabulate}
+use Rattle.affine.specs.Row.{numbers, span, radius}
 use Rattle.affine.specs.Steps.{constantRow, number}
 use Rattle.affine.specs.Reciprocal.{ApartOutweighs}
 use Rattle.affine.proofs.Form.{Shaped}
@@ -25,12 +26,13 @@ use Rattle.affine.proofs.Lists.{length-tabulate, getD-tabulate}
 use Rattle.sheet.specs.declared.Schedule.{Schedule}
 use Rattle.sheet.specs.Causes.{refusal, accepted}
 use Rattle.sheet.proofs.Passed.{Passed}
-use Rattle.evaluation.specs.Table.{rowWidth, rangeWidth, rowPart, rowOfNumbers, rangeOfNumbers, rangeNumbers, rowAt, rangeAt, tableAfter, rangesAfter, rowsIn, rangesIn, RowsWithin, RangesOf, RangesOrdered}
+use Rattle.evaluation.specs.Table.{rowWidth, rangeWidth, rowPart, rowOfNumbers, rangeOfNumbers, rangeNumbers, rowAt, rangeAt, tableAfter, rangesAfter, rowsIn, rangesIn, RowsWithin, Operands, RangesOf, RangesOrdered}
 use Rattle.evaluation.specs.Work.{ownRange, ownRanges, answeredRanges, onward, stopped, withAnswer, worked, rowAnswer}
 use Rattle.evaluation.proofs.Sequence.{length-grown, getD-grown}
 use Rattle.evaluation.proofs.TableLaws.{length-numbers, rowOfNumbers-numbers, Wide, length-after, part-after, after-more}
 use Rattle.evaluation.proofs.WorkLaws.{nextRow, rowsUpTo, went, number-zero}
-use Rattle.evaluation.proofs.SoundRows.{Sound, row-sound}
+use Rattle.evaluation.proofs.SoundRows.{Sound, row-sound, row-radius}
+use Rattle.evaluation.proofs.EveryRow.{none-later}
 use Rattle.evaluation.proofs.OwnRanges.{noRange, length-own, own-at, own-more, answer-range, own-outweighs, own-ordered}
 use Rattle.evaluation.proofs.EvaluationEnds.{nothing-put, nothing-told}
 
@@ -109,6 +111,21 @@ withAnswer-refused : (rows : List Row) (a : Answer) → (number (a .status) ≡ 
 unfolding withAnswer
 withAnswer-refused rows a e = rw (ne-eqb _ 0 e)
 
+-- the radii of the first n rows, in a list that has one for each symbol
+pub record RadiiOf (c : Schedule) (n : ℕ) (radii : List ℕ) : Type 0 where
+  pub long : length radii ≡ symbols
+  pub each : (i : ℕ) → i < n → getD radii i 0 ≡ radius (nextRow c (rowsUpTo c i))
+
+pub radii-none : (c : Schedule) (radii : List ℕ) → length radii ≡ symbols → RadiiOf c 0 radii
+radii-none c radii e = record { long = e; each = λ i l. absurd (not-suc-le-zero l) }
+
+radii-more : (c : Schedule) (n : ℕ) (radii : List ℕ) (v : ℕ) → n < symbols → RadiiOf c n radii → v ≡ radius (nextRow c (rowsUpTo c n)) → RadiiOf c (n + 1) (set radii n v)
+radii-more c n radii v h so-far e = record { long = length-set radii n v ∙ so-far .long; each = λ i l. by-place i (eq-or-lt-of-le (le-of-suc-le-suc (subst (λ k. i < k) (add-one n) l))) }
+  where
+    by-place : (i : ℕ) → (i ≡ n) ⊎ (i < n) → getD (set radii n v) i 0 ≡ radius (nextRow c (rowsUpTo c i))
+    by-place i (inl p) = subst (λ k. getD (set radii n v) k 0 ≡ radius (nextRow c (rowsUpTo c k))) (sym p) (getD-set-same radii n v 0 (rw (so-far .long) h) ∙ e)
+    by-place i (inr l) = getD-set-other radii n i v 0 (λ p. let k : n < n = subst (λ k. k < n) p l in omega arith) ∙ so-far .each i l
+
 -- the first n rows of a schedule, none refused, worked into a table, and their ranges into a second
 pub record WorkedInto (c : Schedule) (n : ℕ) (before after beforeRanges afterRanges : List ℤ) : Type 0 where
   pub none-refused : worked c n .refusal .number ≡ 0
@@ -186,6 +203,15 @@ module _ {c : Schedule} {n : ℕ} {before after beforeRanges afterRanges : List 
           subst (λ k. ApartOutweighs (ownRange c k (nextRow c (rowsUpTo c i))) (nextRow c (rowsUpTo c i))) (length-grown (nextRow c) i)
           (own-outweighs c (rowsUpTo c i) passed (went c n (w .none-refused) .each i l))
 
+  -- with their radii they may be operands
+  pub operands : {radii : List ℕ} → RadiiOf c n radii → n ≤ symbols → Operands after radii n
+  operands radii few =
+      record {
+        room = omega (arith, radii .long);
+        none-later = λ i l m k. subst (λ r. at (r .linear) m ≡ pos 0) (sym (row-held i l)) (none-later c i m k .linear);
+        radius-at = λ i l. radii .each i l ∙ ap radius (sym (row-held i l));
+      }
+
   pub ranges-ordered : Passed c → rangeWidth * n ≤ length beforeRanges → RangesOrdered afterRanges n
   ranges-ordered passed h =
       record {
@@ -226,6 +252,12 @@ module _ {c : Schedule} {n : ℕ} {before after beforeRanges afterRanges : List 
               ∙ ap (λ l. rangesAfter l beforeRanges) (sym (own-more c rows (a .row)))
               ∙ ap (λ v. rangesAfter (answeredRanges c (v .rows)) beforeRanges) (sym q);
         })
+
+    -- and its radius that of the next row
+    pub radii-on : {radii : List ℕ} → n < symbols → RadiiOf c n radii → RadiiOf c (n + 1) (set radii n (a .radius))
+    radii-on {radii} h so-far =
+        let is : a ≡ rowAnswer c (rowsUpTo c n) = answer ∙ ap (rowAnswer c) (rows-read ∙ went c n (w .none-refused) .rows) in
+        radii-more c n radii (a .radius) h so-far (ap (λ b. b .radius) is ∙ row-radius c (rowsUpTo c n))
 
     -- a refusal ends the work, however many rows were to come
     pub worked-refused : (m : ℕ) → n < m → (number (a .status) ≡ 0 → ⊥) → worked c m ≡ stopped rows (refusal (number (a .status)) (n + 1))

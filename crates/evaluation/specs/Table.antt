@@ -1,14 +1,15 @@
 -- The two lent tables: where a row's numbers and its range stand in them, and what rows and ranges put into them leave.
 use mathlib.Core.List.{List, [], _∷_, _++_}
-use Prim.Native.Nat.{ℕ, _+_, _*_, _≤_, _<_}
+use mathlib.Core.Path.{_≡_}
+use Prim.Native.Nat.{ℕ, suc, _+_, _*_, _≤_, _<_}
 use lib.IntN.{ℤ}
-use lib.ListN.{length, take, drop}
+use lib.ListN.{length, getD, take, drop}
 use lib.Signed.{_≤ℤ_}
 use Rattle.affine.specs.declared.Row.{Row}
 use Rattle.affine.specs.declared.Range.{Range}
 use Rattle.affine.specs.Limits.{symbols, pairs, spanLimit}
 use Rattle.affine.specs.Lists.{at, tabulate}
-use Rattle.affine.specs.Row.{numbers, span}
+use Rattle.affine.specs.Row.{numbers, span, radius, NoneFrom}
 use Rattle.affine.specs.Reciprocal.{ApartOutweighs}
 
 -- "A row is 52 whole numbers"
@@ -75,6 +76,12 @@ rangesIn ranges n = tabulate n (rangeAt ranges)
 pub record RowsWithin (table : List ℤ) (n : ℕ) : Type 0 where
   pub room : rowWidth * n ≤ length table
   pub spans : (i : ℕ) → i < n → span (rowAt table i) ≤ spanLimit
+
+-- what a product or a reciprocal asks of its operands besides: no coefficient of a later row's symbol, and the radius of each row, in a list beside the tables
+pub record Operands (table : List ℤ) (radii : List ℕ) (n : ℕ) : Type 0 where
+  pub room : n ≤ length radii
+  pub none-later : (i : ℕ) → i < n → NoneFrom (suc i) (rowAt table i .linear)
+  pub radius-at : (i : ℕ) → i < n → getD radii i 0 ≡ radius (rowAt table i)
 
 pub record RangesOf (table ranges : List ℤ) (n : ℕ) : Type 0 where
   pub room : rangeWidth * n ≤ length ranges

@@ -1,4 +1,4 @@
-// The row of a line of the sheet, made from the rows before it, which stand in a table, and their ranges, which stand in the second.
+// The row of a line of the sheet, made from the rows before it, which stand in a table, their ranges, which stand in the second, and their radii.
 use crate::table::get_range;
 use crate::table::get_row;
 use affine::Answer;
@@ -7,13 +7,14 @@ ghost use mathlib.Core.Path.{_≡_};
 ghost use Prim.Native.Nat.{_<_, _≤_};
 ghost use Rattle.affine.specs.Limits.{symbols, paired};
 ghost use Rattle.sheet.proofs.Passing.{StepPassed};
-ghost use Rattle.evaluation.specs.Table.{rowAt, rowsIn, rangesIn, RowsWithin, RangesOf};
+ghost use Rattle.evaluation.specs.Table.{rowAt, rowsIn, rangesIn, RowsWithin, RangesOf, Operands};
 ghost use Rattle.evaluation.specs.Work.{binaryAnswer, stepAnswer};
 
 // Codes 2 to 4: a sum, a difference or a product of two rows of the table. Each branch reads the rows itself: read once for all three they
 // are taken apart number by number and moved about.
 fn binary_answer(
     table: &[i64],
+    radii: &[u64],
     code: i64,
     first: usize,
     second: usize,
@@ -21,7 +22,7 @@ fn binary_answer(
     own: usize,
 ) -> Answer
     requires { ⌜ (squares ≤ paired) × (own < symbols) × (first < own) × (second < own) ⌝ }
-    requires { ⌜ RowsWithin (now table) own ⌝ }
+    requires { ⌜ RowsWithin (now table) own × Operands (now table) (now radii) own ⌝ }
     ensures { λ r. ⌜ r ≡ binaryAnswer squares own code (rowAt (now (table .entry)) first) (rowAt (now (table .entry)) second) ⌝ }
 {
     if code == 2 {
@@ -36,13 +37,22 @@ fn binary_answer(
     }
     let x = get_row(table, first);
     let y = get_row(table, second);
-    affine::product::multiply(x, y, squares, own)
+    let x_radius = radii[first];
+    let y_radius = radii[second];
+    affine::product::multiply(x, x_radius, y, y_radius, squares, own)
 }
 
 // The row of a step that owns the symbol at index own.
-pub fn step_answer(table: &[i64], ranges: &[i64], t: Step, squares: usize, own: usize) -> Answer
+pub fn step_answer(
+    table: &[i64],
+    ranges: &[i64],
+    radii: &[u64],
+    t: Step,
+    squares: usize,
+    own: usize,
+) -> Answer
     requires { ⌜ (squares ≤ paired) × (own < symbols) × StepPassed own (t .code) (t .first) (t .second) (t .value) ⌝ }
-    requires { ⌜ RowsWithin (now table) own × RangesOf (now table) (now ranges) own ⌝ }
+    requires { ⌜ RowsWithin (now table) own × RangesOf (now table) (now ranges) own × Operands (now table) (now radii) own ⌝ }
     ensures { λ r. ⌜ r ≡ stepAnswer squares (rowsIn (now (table .entry)) own) (rangesIn (now (ranges .entry)) own) t ⌝ }
 {
     let code = t.code;
@@ -53,8 +63,9 @@ pub fn step_answer(table: &[i64], ranges: &[i64], t: Step, squares: usize, own: 
     if code == 5 {
         let range = get_range(ranges, first - 1);
         let x = get_row(table, first - 1);
-        return affine::reciprocal::invert(x, range, squares, own);
+        let x_radius = radii[first - 1];
+        return affine::reciprocal::invert(x, x_radius, range, squares, own);
     }
     let second = t.second as usize;
-    binary_answer(table, code, first - 1, second - 1, squares, own)
+    binary_answer(table, radii, code, first - 1, second - 1, squares, own)
 }

@@ -3,6 +3,7 @@ use crate::steps::step_answer;
 use crate::table::put_range;
 use crate::table::put_row;
 use affine::Status;
+use affine::limits::SYMBOLS;
 use sheet::Refusal;
 use sheet::Schedule;
 ghost use mathlib.Core.Path.{_≡_};
@@ -40,6 +41,7 @@ pub fn work_rows(c: Schedule, table: &mut [i64], ranges: &mut [i64], rows: usize
 {
     let inputs = c.inputs as usize;
     let squares = c.squares as usize;
+    let mut radii = [0u64; SYMBOLS];
     let mut i: usize = 0;
     while i < rows {
         // The schedule is taken apart here: handed on by value it is copied for each row.
@@ -48,7 +50,7 @@ pub fn work_rows(c: Schedule, table: &mut [i64], ranges: &mut [i64], rows: usize
             affine::steps::input(i, e.low, e.high)
         } else {
             let t = c.step[i - inputs];
-            step_answer(&*table, &*ranges, t, squares, i)
+            step_answer(&*table, &*ranges, &radii, t, squares, i)
         };
         let status = a.status;
         let number = status_number(status);
@@ -56,6 +58,7 @@ pub fn work_rows(c: Schedule, table: &mut [i64], ranges: &mut [i64], rows: usize
             let place = i + 1;
             return Refusal { number, place };
         }
+        radii[i] = a.radius;
         let range = a.range;
         put_range(&mut *ranges, i, range);
         let r = a.row;

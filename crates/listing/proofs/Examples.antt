@@ -6,8 +6,8 @@ use Prim.Native.Nat.{ℕ}
 use Rattle.integer.specs.Floor.{floorQuotient, floorRemainder}
 use Rattle.affine.specs.Lists.{tabulate, sum}
 use Rattle.affine.specs.PairOrder.{overPairs, firsts, seconds}
-use Rattle.affine.specs.Row.{span, low, high, agree, pairBelow, pairAbove, pairsBelow, pairsAbove}
-use Rattle.affine.specs.Product.{linearTotals, pairTotals, radius, squaredRadius, dropped, productOwn, productRow}
+use Rattle.affine.specs.Row.{span, low, high, agree, pairBelow, pairAbove, pairsBelow, pairsAbove, radius}
+use Rattle.affine.specs.Product.{linearTotals, pairTotals, squaredRadius, dropped, productOwn, productRow}
 use Rattle.sheet.specs.Lines.{zeroSchedule, lineOf, numbers, store}
 use Rattle.sheet.specs.Tests.{countsPass, endsPass, stepPasses, fault}
 use Rattle.sheet.specs.Number.{run, judged, afterSign, fieldAt}

@@ -5,12 +5,11 @@ use affine::Range;
 use affine::Row;
 use affine::Status;
 use libc::STDOUT_FILENO;
-ghost use Prim.Native.Nat.{_≤_, _<_};
+ghost use Prim.Native.Nat.{ℕ, _≤_, _<_};
 ghost use lib.IntN.{natAbs};
 ghost use lib.Signed.{_≤ℤ_};
 ghost use Rattle.affine.specs.Limits.{symbols, paired, spanLimit};
-ghost use Rattle.affine.specs.Row.{span};
-ghost use Rattle.affine.specs.Reciprocal.{ApartOutweighs};
+ghost use Rattle.row_examples.specs.Operand.{Operand};
 
 fn print_number(z: i64) {
     io::write_all(STDOUT_FILENO, b" ");
@@ -55,42 +54,48 @@ fn print_example(label: &[u8], answer: Answer) {
     io::write_all(STDOUT_FILENO, b"\n");
 }
 
-// A constant, which may be an operand.
+// A constant, which may be an operand of any row.
 fn constant(value: i64) -> Answer
-    ensures { λ r. ⌜ (span (r .row) ≤ spanLimit) × ApartOutweighs (r .range) (r .row) ⌝ }
+    ensures { λ r. ⌜ ((own : ℕ) → Operand own r) ⌝ }
 {
     affine::steps::constant(value)
 }
 
-// The input is row 1.
+// The input is row 1, and may be an operand of any later one.
 fn input(low: i64, high: i64) -> Answer
     requires { ⌜ (natAbs low ≤ spanLimit) × (natAbs high ≤ spanLimit) × (low ≤ℤ high) ⌝ }
-    ensures { λ r. ⌜ (span (r .row) ≤ spanLimit) × ApartOutweighs (r .range) (r .row) ⌝ }
+    ensures { λ r. ⌜ Operand 1 r ⌝ }
 {
     affine::steps::input(0, low, high)
 }
 
-fn print_product(label: &[u8], x: Row, y: Row, squares: usize, own: usize)
-    requires { ⌜ (span x ≤ spanLimit) × (span y ≤ spanLimit) × (squares ≤ paired) × (own < symbols) ⌝ }
+fn print_product(label: &[u8], x: Answer, y: Answer, squares: usize, own: usize)
+    requires { ⌜ Operand own x × Operand own y × (squares ≤ paired) × (own < symbols) ⌝ }
 {
-    print_example(label, affine::product::multiply(x, y, squares, own));
+    let first = x.row;
+    let second = y.row;
+    print_example(
+        label,
+        affine::product::multiply(first, x.radius, second, y.radius, squares, own),
+    );
 }
 
 fn print_reciprocal(label: &[u8], x: Answer, squares: usize, own: usize)
-    requires { ⌜ (span (x .row) ≤ spanLimit) × ApartOutweighs (x .range) (x .row) × (squares ≤ paired) × (own < symbols) ⌝ }
+    requires { ⌜ Operand own x × (squares ≤ paired) × (own < symbols) ⌝ }
 {
     let row = x.row;
     let range = x.range;
-    print_example(label, affine::reciprocal::invert(row, range, squares, own));
+    print_example(
+        label,
+        affine::reciprocal::invert(row, x.radius, range, squares, own),
+    );
 }
 
 // Behind an input come the constants, rows 2 and 3: the product is row 4.
 fn product_of_constants(label: &[u8], first: i64, second: i64) {
     let x = constant(first);
     let y = constant(second);
-    let r = x.row;
-    let s = y.row;
-    print_product(label, r, s, 0, 3);
+    print_product(label, x, y, 0, 3);
 }
 
 // Behind an input comes the constant, row 2: the reciprocal is row 3.
@@ -102,8 +107,7 @@ fn reciprocal_of_constant(label: &[u8], value: i64) {
 fn square_of_input(label: &[u8], low: i64, high: i64, squares: usize)
     requires { ⌜ (natAbs low ≤ spanLimit) × (natAbs high ≤ spanLimit) × (low ≤ℤ high) × (squares ≤ paired) ⌝ }
 {
-    let answer = input(low, high);
-    let x = answer.row;
+    let x = input(low, high);
     print_product(label, x, x, squares, 1);
 }
 

@@ -13,11 +13,10 @@ use Rattle.integer.proofs.Machine.{operation-fits, operation-gives}
 use Rattle.affine.specs.declared.Row.{Row}
 use Rattle.affine.specs.Limits.{unitSquared, spanLimit}
 use Rattle.affine.specs.Row.{rowOfParts, span}
-use Rattle.affine.specs.Product.{linearTotals, pairTotals, dropped}
 use Rattle.affine.specs.Reciprocal.{errorBound}
-use Rattle.affine.proofs.RowSize.{centre-within, linear-within, parts-within}
-use Rattle.affine.proofs.Totals.{linear-totals-of-parts, pair-totals-of-parts, dropped-of-parts}
-use Rattle.affine.proofs.Magnitude.{centre-product-within, totals-within}
+use Rattle.affine.proofs.RowSize.{linear-within-radius, radius-within, unpaired-within}
+use Rattle.affine.proofs.Magnitude.{centre-product-within}
+use Rattle.affine.proofs.Totals.{linear-totals-of-parts, pair-totals-of-parts, dropped-of-radii}
 use Rattle.affine.proofs.ErrorBound.{centreLess, error-bound-is-sum, error-bound-within}
 use Rattle.affine.proofs.reciprocal.error_bound.Statement.{statement}
 use Rattle.affine.proofs.reciprocal.error_bound.Tie as tie
@@ -29,10 +28,10 @@ abbrev z : tie.Start → Row
 z c = rowOfParts (c .args .d) (c .args .b .now) (c .args .q .now)
 
 x-within : (c : tie.Start) → span (x c) ≤ spanLimit
-x-within c = c .pre .1 .0 .1
+x-within c = search needs
 
 z-within : (c : tie.Start) → span (z c) ≤ spanLimit
-z-within c = c .pre .1 .1 .1
+z-within c = search needs
 
 -- ---- the centre's total, less N
 product-within : (c : tie.Start) → natAbs (c .args .c *ℤ c .args .d) ≤ spanLimit * spanLimit
@@ -60,76 +59,52 @@ sub-t c = rw (product-is c) (less-fits c)
 absolute-requires : tie.Need-absolute-requires
 absolute-requires c κs = search needs
 
--- ---- the parts of both rows, as they are lent
-x-is : (c : tie.Start) → toZ w64 (ofZ w64 (c .args .c)) ≡ c .args .c
-x-is c = toZ-ofZ w64 _ (c .fits .c)
+-- ---- the sums of the totals, of the parts of both rows as they are lent
+c-is : (c : tie.Start) → toZ w64 (ofZ w64 (c .args .c)) ≡ c .args .c
+c-is c = toZ-ofZ w64 _ (c .fits .c)
 
-z-is : (c : tie.Start) → toZ w64 (ofZ w64 (c .args .d)) ≡ c .args .d
-z-is c = toZ-ofZ w64 _ (c .fits .d)
+d-is : (c : tie.Start) → toZ w64 (ofZ w64 (c .args .d)) ≡ c .args .d
+d-is c = toZ-ofZ w64 _ (c .fits .d)
 
-linear-totals-requires : tie.Need-linear-totals-requires
-linear-totals-requires c κs =
+linear-bound-requires : tie.Need-linear-bound-requires
+linear-bound-requires c κs =
     let s = c .before in
-    let hx = x-within s in
-    let hz = z-within s in
-    rw (x-is s, z-is s) ((centre-within (x s) hx, centre-within (z s) hz), (linear-within (x s) hx, linear-within (z s) hz))
+    let p = s .pre .0 in
+    rw (c-is s, d-is s) ((p .1, p .2, p .3), (unpaired-within (x s) (x-within s), unpaired-within (z s) (z-within s)))
 
-linear-is : (c : tie.After-linear-totals) → let s = c .before .before in c .linear-totals .result ≡ linearTotals (x s) (z s)
-linear-is c = let s = c .before .before in c .linear-totals .ensures ∙ linear-totals-of-parts (x s) (z s) (x-is s) (z-is s)
-
--- all totals and the dropped part together
-all-within : (c : tie.Start)
-    → natAbs (c .args .c *ℤ c .args .d) + sumAbs (linearTotals (x c) (z c)) + sumAbs (pairTotals (c .args .squares) (x c) (z c)) + dropped (c .args .squares) (x c) (z c)
-    ≤ spanLimit * spanLimit
-all-within c = totals-within (c .args .squares) (x c) (z c) (x-within c) (z-within c)
-
-slice-aggregate-absolutes : tie.Need-slice-aggregate-absolutes
-slice-aggregate-absolutes c = search needs
-
-absolutes-requires : tie.Need-absolutes-requires
-absolutes-requires c κs = let l = c .before in rw (linear-is l) (omega (arith, all-within (l .before .before)))
-
-pair-totals-requires : tie.Need-pair-totals-requires
-pair-totals-requires c κs = let s = c .before .before .before .before in rw (x-is s, z-is s) (x-within s, z-within s)
-
-pair-is : (c : tie.After-pair-totals) → let s = c .before .before .before .before .before in c .pair-totals .result ≡ pairTotals (s .args .squares) (x s) (z s)
-pair-is c = let s = c .before .before .before .before .before in c .pair-totals .ensures ∙ pair-totals-of-parts (x s) (z s) (x-is s) (z-is s) (s .args .squares)
-
-slice-aggregate-absolutes-2 : tie.Need-slice-aggregate-absolutes-2
-slice-aggregate-absolutes-2 c = search needs
-
-absolutes-requires-2 : tie.Need-absolutes-requires-2
-absolutes-requires-2 c κs = let p = c .before in rw (pair-is p) (omega (arith, all-within (p .before .before .before .before .before)))
+pair-bound-requires : tie.Need-pair-bound-requires
+pair-bound-requires c κs =
+    let s = c .before .before in
+    rw (c-is s, d-is s) (s .pre .0 .0, x-within s, z-within s)
 
 dropped-part-requires : tie.Need-dropped-part-requires
 dropped-part-requires c κs =
-    let s = c .before .before .before .before .before .before .before in
-    let p = s .pre .1 in
-    (s .pre .0, ((p .0 .0, parts-within (x s) (x-within s)), (p .1 .0, parts-within (z s) (z-within s))))
+    let s = c .before .before .before in
+    let (a-long, a-within, a-radius-is) = s .pre .1 .0 in
+    let (b-long, b-within, b-radius-is) = s .pre .1 .1 in (
+      s .pre .0 .0,
+      (
+        rw a-radius-is (a-long, linear-within-radius (x s), radius-within (x s) a-within),
+        rw b-radius-is (b-long, linear-within-radius (z s), radius-within (z s) b-within),
+      ),
+    )
 
 -- ---- the sum of the four parts
-abbrev after-linear : tie.After-dropped-part → tie.After-absolutes
-after-linear c = c .before .before .before .before
-
-abbrev after-centre : tie.After-dropped-part → tie.After-absolute
-after-centre c = c .before .before .before .before .before .before .before
-
 abbrev start : tie.After-dropped-part → tie.Start
-start c = after-centre c .before
+start c = c .before .before .before .before
 
 sum-is : (c : tie.After-dropped-part)
-    → after-centre c .absolute .result + after-linear c .absolutes .result + c .before .absolutes2 .result + c .dropped-part .result
+    → c .before .before .before .absolute .result + c .before .before .linear-bound .result + c .before .pair-bound .result + c .dropped-part .result
     ≡ errorBound (start c .args .squares) (x (start c)) (z (start c))
 sum-is c =
     let s = start c in
+    let p = s .pre .1 in
     let squares = s .args .squares in
-    let centre-is = rw (product-is s, toZ-ofZ w64 _ (less-fits s)) at (after-centre c .absolute .ensures) in
-    ap₂ _+_
-    (ap₂ _+_
-    (ap₂ _+_ centre-is (after-linear c .absolutes .ensures ∙ ap sumAbs (linear-is (after-linear c .before .before))))
-    (c .before .absolutes2 .ensures ∙ ap sumAbs (pair-is (c .before .before .before))))
-    (c .dropped-part .ensures ∙ dropped-of-parts squares (x s) (z s))
-    ∙ error-bound-is-sum squares (x s) (z s)
+    let centre = rw (product-is s, toZ-ofZ w64 _ (less-fits s)) at (c .before .before .before .absolute .ensures) in
+    let linear = c .before .before .linear-bound .ensures ∙ ap sumAbs (linear-totals-of-parts (x s) (z s) (c-is s) (d-is s)) in
+    let pair = c .before .pair-bound .ensures ∙ ap sumAbs (pair-totals-of-parts (x s) (z s) (c-is s) (d-is s) squares) in
+    let dropped = c .dropped-part .ensures ∙ dropped-of-radii squares (x s) (z s) (p .0 .2) (p .1 .2) in
+    ap₂ _+_ (ap₂ _+_ (ap₂ _+_ centre linear) pair) dropped ∙ error-bound-is-sum squares (x s) (z s)
 
 sum-within : (c : tie.After-dropped-part) → errorBound (start c .args .squares) (x (start c)) (z (start c)) ≤ spanLimit * spanLimit + unitSquared
 sum-within c = let s = start c in error-bound-within (s .args .squares) (x s) (z s) (x-within s) (z-within s)
@@ -153,12 +128,8 @@ error-bound-spec =
     mul-t
     sub-t
     absolute-requires
-    linear-totals-requires
-    slice-aggregate-absolutes
-    absolutes-requires
-    pair-totals-requires
-    slice-aggregate-absolutes-2
-    absolutes-requires-2
+    linear-bound-requires
+    pair-bound-requires
     dropped-part-requires
     add-result
     add-result-2

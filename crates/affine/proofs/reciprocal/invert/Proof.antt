@@ -1,11 +1,14 @@
 -- `invert` meets its contract: by the two ends of the range, one of the three ways of a reciprocal.
 use mathlib.Core.Path.{_≡_, sym, ap, _∙_}
 use mathlib.Core.Bool.{true, false}
+use Prim.Native.Nat.{_≤_, _<_}
 use lib.IntN.{pos, natAbs}
 use lib.Signed.{ltZ}
 use mir.Syntax.{w64}
 use mir.Val.{toZ, ofZ}
 use borrow.Author.Needs.{needs}
+use Rattle.affine.specs.Limits.{symbols, paired, spanLimit}
+use Rattle.affine.specs.Row.{span, radius, NoneFrom}
 use Rattle.affine.specs.Reciprocal.{reciprocalApart}
 use Rattle.affine.proofs.Distance.{some-above, some-below, apart-above, apart-below, reciprocal-above, reciprocal-below, reciprocal-none}
 use Rattle.affine.proofs.reciprocal.invert.Statement.{statement}
@@ -36,6 +39,12 @@ below c = rw (high-is (c .before .before)) at (c .if2 .taken)
 not-below : (c : tie.Else2) → ltZ (start (c .before .before) .args .range .high) (pos 0) ≡ false
 not-below c = rw (high-is (c .before .before)) at (c .if2 .left)
 
+-- what a reciprocal asks on either side of 0
+asked : (s : tie.Start)
+    → let g = s .args in
+    (g .squares ≤ paired) × (g .own < symbols) × (span (g .x) ≤ spanLimit) × (g .x-radius ≡ radius (g .x)) × NoneFrom (g .own) (g .x .linear)
+asked s = search needs
+
 -- ---- the range above 0
 absolute-requires : tie.Need-absolute-requires
 absolute-requires c κs = search needs
@@ -47,8 +56,8 @@ reciprocal-apart-requires : tie.Need-reciprocal-apart-requires
 reciprocal-apart-requires c κs =
     let s = start (c .before .before) in
     let t = above (c .before) in
-    let o = s .pre .3 (apart-above (s .args .range) t) in
-    ((s .pre .0, s .pre .1, s .pre .2), rw (low-distance c) (some-above (s .args .range .low) t, o .some, o .within))
+    let o = s .pre .0 .3 (apart-above (s .args .range) t) in
+    (asked s, rw (low-distance c) (some-above (s .args .range .low) t, o .some, o .within))
 
 returns : tie.Need-returns
 returns c =
@@ -68,8 +77,8 @@ reciprocal-apart-requires-2 : tie.Need-reciprocal-apart-requires-2
 reciprocal-apart-requires-2 c κs =
     let s = start (c .before .before .before) in
     let t = below (c .before) in
-    let o = s .pre .3 (apart-below (s .args .range) (not-above (c .before .before)) t) in
-    ((s .pre .0, s .pre .1, s .pre .2), rw (high-distance c) (some-below (s .args .range .high) t, o .some, o .within))
+    let o = s .pre .0 .3 (apart-below (s .args .range) (not-above (c .before .before)) t) in
+    (asked s, rw (high-distance c) (some-below (s .args .range .high) t, o .some, o .within))
 
 returns-2 : tie.Need-returns-2
 returns-2 c =

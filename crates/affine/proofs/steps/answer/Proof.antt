@@ -8,7 +8,7 @@ refusal-requires : tie.Need-refusal-requires
 refusal-requires c κs = search needs
 
 returns : tie.Need-returns
-returns c = rw (c .if1 .taken)
+returns c = rw (c .if1 .taken, c .before .pre)
 
 returns-2 : tie.Need-returns-2
 returns-2 c = c .refusal .ensures ∙ rw (c .before .if1 .left)

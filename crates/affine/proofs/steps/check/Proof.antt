@@ -6,7 +6,7 @@ use mir.Val.{SFits}
 use mir.ValLaws.{toZ-ofZ}
 use Rattle.affine.specs.Limits.{pairs}
 use Rattle.affine.specs.Measured.{measured}
-use Rattle.affine.proofs.Answers.{answer-measured}
+use Rattle.affine.proofs.Answers.{radius-measured, answer-measured}
 use borrow.Author.Needs.{needs}
 use Rattle.affine.proofs.steps.check.Statement.{statement}
 use Rattle.affine.proofs.steps.check.Tie as tie
@@ -27,7 +27,7 @@ told : (c : tie.After-measure) → c .measure .result ≡ measured (start c .arg
 told c = rw (toZ-ofZ w64 _ (centre-fits (start c))) at (c .measure .ensures)
 
 answer-requires : tie.Need-answer-requires
-answer-requires c κs = search needs
+answer-requires c κs = radius-measured (start (c .before) .args .t1) (told (c .before))
 
 returns : tie.Need-returns
 returns c = let m = c .before .before in c .answer .ensures ∙ answer-measured (start m .args .t1) (told m)

@@ -11,7 +11,7 @@ use Rattle.sheet.specs.Lines.{natural}
 use Rattle.sheet.specs.Limits.{lastCode}
 use Rattle.sheet.proofs.Passing.{Natural}
 use Rattle.evaluation.proofs.FieldBits.{NaturalCast, cast-natural, number-is, number-is-not}
-use Rattle.evaluation.proofs.StepAnswers.{read-room, read-span, read-range-room, read-apart, named-earlier, named-is, named-range-is, constant-step, reciprocal-step, binary-step}
+use Rattle.evaluation.proofs.StepAnswers.{read-room, read-span, read-radius-room, read-radius, read-none, read-range-room, read-apart, named-earlier, named-is, named-range-is, constant-step, reciprocal-step, binary-step}
 use borrow.Author.Needs.{needs}
 use Rattle.evaluation.proofs.steps.step_answer.Statement.{statement}
 use Rattle.evaluation.proofs.steps.step_answer.Tie as tie
@@ -25,7 +25,7 @@ value-fits c = search needs
 
 -- where the code is not 1, first names an earlier row
 abbrev start : tie.After-struct-told3 → tie.Start
-start c = c .before .before .before .before
+start c = c .before .before .before .before .before
 
 not-constant : (c : tie.After-struct-told3) → natural (start c .args .t .code) ≡ 1 → ⊥
 not-constant c = number-is-not (fields-fit (start c) .0) (omega arith) (c .before .before .if1 .left)
@@ -56,7 +56,7 @@ constant-requires c κs = search needs
 
 returns : tie.Need-returns
 returns c =
-    let s = c .before .before .before .before in
+    let s = c .before .before .before .before .before in
     constant-step (s .args .squares) (s .args .table .now) (s .args .ranges .now) (s .args .own) (s .args .t)
     (number-is (fields-fit s .0) (omega arith) (c .before .before .if1 .taken))
     (rw (toZ-ofZ w64 _ (value-fits s)) at (c .constant .ensures))
@@ -80,20 +80,29 @@ sub-get-row c = let f = c .before .before in omega (arith, first-cast f .is, fir
 get-row-requires : tie.Need-get-row-requires
 get-row-requires c κs = let f = c .before .before in read-room (start f .pre .1 .0) (first-earlier f)
 
+sub-x-radius : tie.Need-sub-x-radius
+sub-x-radius c = let f = c .before .before .before in omega (arith, first-cast f .is, first-named f .from)
+
+mul-x-radius : tie.Need-mul-x-radius
+mul-x-radius c = let f = c .before .before .before in omega (arith, first-earlier f, start f .pre .0 .1)
+
+shared-slice-read-x-radius : tie.Need-shared-slice-read-x-radius
+shared-slice-read-x-radius c = let f = c .before .before .before .before in read-radius-room (start f .pre .1 .2) (first-earlier f)
+
 invert-requires : tie.Need-invert-requires
 invert-requires c κs =
-    let r = c .before in
+    let g = c .before in
+    let r = g .before in
     let f = r .before .before in
-    let s = start f in (
-      s .pre .0 .0,
-      s .pre .0 .1,
-      read-span (s .pre .1 .0) (first-earlier f) (c .get-row .ensures),
-      read-apart (s .pre .1 .1) (first-earlier f) (c .get-row .ensures) (r .get-range .ensures),
+    let s = start f in
+    let x = g .get-row .ensures in (
+      (s .pre .0 .0, s .pre .0 .1, read-span (s .pre .1 .0) (first-earlier f) x, read-apart (s .pre .1 .1) (first-earlier f) x (r .get-range .ensures)),
+      (read-radius (s .pre .1 .2) (first-earlier f) x, read-none (s .pre .1 .2) (first-earlier f) x),
     )
 
 returns-2 : tie.Need-returns-2
 returns-2 c =
-    let g = c .before in
+    let g = c .before .before in
     let r = g .before in
     let f = r .before .before in
     let s = start f in
@@ -115,7 +124,7 @@ sub-binary-answer-2 c = omega (arith, second-cast c .is, second-named c .from)
 binary-answer-requires : tie.Need-binary-answer-requires
 binary-answer-requires c κs =
     let s = start (earlier c) in
-    ((s .pre .0 .0, s .pre .0 .1, first-earlier (earlier c), named-earlier (second-named c) (second-cast c .is)), s .pre .1 .0)
+    ((s .pre .0 .0, s .pre .0 .1, first-earlier (earlier c), named-earlier (second-named c) (second-cast c .is)), (s .pre .1 .0, s .pre .1 .2))
 
 returns-3 : tie.Need-returns-3
 returns-3 c =
@@ -138,6 +147,9 @@ step-answer-spec =
     get-range-requires
     sub-get-row
     get-row-requires
+    sub-x-radius
+    mul-x-radius
+    shared-slice-read-x-radius
     invert-requires
     returns-2
     cast-second

@@ -1,6 +1,6 @@
--- `work_rows` works the rows one after another: after i of them none was refused, and the tables are what those rows and their ranges leave of them. It
--- takes each row's line as the definition does: the counts that it casts passed, and so did the line's numbers.
-use mathlib.Core.Path.{_≡_, sym, ap, _∙_, subst}
+-- `work_rows` works the rows one after another: after i of them none was refused, the tables are what those rows and their ranges leave of them, and the
+-- list of radii has theirs. It takes each row's line as the definition does: the counts that it casts passed, and so did the line's numbers.
+use mathlib.Core.Path.{_≡_, refl, sym, ap, _∙_, subst}
 use mathlib.Core.Logic.{⊎-elim}
 use Prim.Native.Nat.{ℕ, _+_, _-_, _*_, _≤_, _<_}
 use native.Mathlib.Omega.{arith}
@@ -24,15 +24,15 @@ use Rattle.evaluation.specs.Work.{rowCount, answeredRanges, Worked, rowA
 use Rattle.evaluation.proofs.FieldBits.{NaturalCast, cast-natural}
 use Rattle.evaluation.proofs.RowLines.{rows-few, squares-few, step-of-row}
 use Rattle.evaluation.proofs.StepAnswers as answers
-use Rattle.evaluation.proofs.WorkedTable.{WorkedInto, worked-none, accepted-so-far, ranges-read, length-kept, length-ranges-kept, rows-within, ranges-of, worked-on, worked-refused}
+use Rattle.evaluation.proofs.WorkedTable.{WorkedInto, RadiiOf, worked-none, radii-none, accepted-so-far, ranges-read, length-kept, length-ranges-kept, rows-within, operands, ranges-of, worked-on, radii-on, worked-refused}
 use Rattle.evaluation.proofs.work.work_rows.Statement.{statement}
 use Rattle.evaluation.proofs.work.work_rows.Tie as tie
 
 abbrev Inv-loop : tie.InvT-loop
-Inv-loop table₀ ranges₀ rows c inputs squares i₀ table ranges i = (i ≤ rows) × WorkedInto c i table₀ table ranges₀ ranges
+Inv-loop table₀ ranges₀ rows c inputs squares radii₀ i₀ table ranges radii i = (i ≤ rows) × WorkedInto c i table₀ table ranges₀ ranges × RadiiOf c i radii
 
 abbrev μ-loop : tie.MeasureT-loop
-μ-loop table₀ ranges₀ rows c inputs squares i₀ table ranges i = rows - i
+μ-loop table₀ ranges₀ rows c inputs squares radii₀ i₀ table ranges radii i = rows - i
 
 -- the counts, as read
 counts-fit : (c : tie.Start Inv-loop μ-loop) → SFits w64 (c .args .t1 .inputs) × SFits w64 (c .args .t1 .squares)
@@ -127,8 +127,8 @@ answer c =
     w .5 ∙ answers.input-answer (s .args .t1) (l .loop .table) (l .loop .ranges) (l .loop .i) (is-input e) (rw (low-is e, high-is e) at (w .4 .ensures)))
     (λ w.
     let e : tie.Else1 Inv-loop μ-loop = record { before = c .before; if1 = w .0 } in
-    w .5 ∙ answers.step-answer (s .args .t1) (l .loop .table) (l .loop .ranges) (l .loop .i) (squares-cast s .is) (inputs-cast s .is) (is-step e)
-    (ranges-read (l .loop .inv .1)) (w .4 .ensures))
+    w .6 ∙ answers.step-answer (s .args .t1) (l .loop .table) (l .loop .ranges) (l .loop .i) (squares-cast s .is) (inputs-cast s .is) (is-step e)
+    (ranges-read (l .loop .inv .1)) (w .5 .ensures))
     (c .if1 .came)
 
 cast-inputs : tie.Need-cast-inputs Inv-loop μ-loop
@@ -138,7 +138,9 @@ cast-squares : tie.Need-cast-squares Inv-loop μ-loop
 cast-squares c = squares-cast (c .before .before) .fits
 
 loop-holds : tie.Need-loop-holds Inv-loop μ-loop
-loop-holds c = let s = c .before .before in (omega arith, worked-none (s .args .t1) (s .args .table .now) (s .args .ranges .now))
+loop-holds c =
+    let s = c .before .before in
+    (omega arith, worked-none (s .args .t1) (s .args .table .now) (s .args .ranges .now), radii-none (s .args .t1) _ refl)
 
 mul-e : tie.Need-mul-e Inv-loop μ-loop
 mul-e c = search needs
@@ -159,14 +161,17 @@ element-copy-out-t c =
     let s = start (c .before .before) in
     subst (λ k. index (c .before) - k < maxSteps) (sym (inputs-cast s .is)) (omega (arith, is-step c, next (c .before), s .pre .0 .0 .counts .steps-in .to))
 
+slice-aggregate-step-answer : tie.Need-slice-aggregate-step-answer Inv-loop μ-loop
+slice-aggregate-step-answer c = search needs
+
 step-answer-requires : tie.Need-step-answer-requires Inv-loop μ-loop
 step-answer-requires c κs =
-    let e = c .before .before .before in
+    let e = c .before .before .before .before in
     let l = e .before .before in
     let s = start l in
     let w = l .loop .inv .1 in (
       (omega (arith, squares-cast s .is, squares-few (s .args .t1) (s .pre .0 .0)), owned (e .before), step-passed e),
-      (rows-within w (so-far l), ranges-of w (s .pre .0 .0) (ranges-so-far l)),
+      (rows-within w (so-far l), ranges-of w (s .pre .0 .0) (ranges-so-far l), operands w (l .loop .inv .2) (omega (arith, owned (e .before)))),
     )
 
 status-number-requires : tie.Need-status-number-requires Inv-loop μ-loop
@@ -199,6 +204,12 @@ returns c =
 more : (c : tie.In-loop Inv-loop μ-loop) → c .before .loop .i + 1 ≤ start (c .before) .args .rows
 more c = omega (arith, c .loop-test .taken)
 
+mul-radii : tie.Need-mul-radii Inv-loop μ-loop
+mul-radii c = omega (arith, owned (c .before .before .before))
+
+array-write-radii : tie.Need-array-write-radii Inv-loop μ-loop
+array-write-radii c = owned (c .before .before .before)
+
 put-range-requires : tie.Need-put-range-requires Inv-loop μ-loop
 put-range-requires c κs =
     let t = c .before .before .before .before .before in
@@ -225,6 +236,7 @@ loop-again c =
     let number-zero : number (j .if1 .a .status) ≡ 0 = omega (arith, o .before .status-number .ensures, o .if2 .left) in (
       omega (arith, j .before .loop-test .taken),
       worked-on (j .before .before .loop .inv .1) (answer j) number-zero (c .before .put-row .ensures) (p .put-range .ensures),
+      radii-on (j .before .before .loop .inv .1) (answer j) (owned (j .before)) (j .before .before .loop .inv .2),
     )
 
 same-length-3 : tie.Need-same-length-3 Inv-loop μ-loop
@@ -261,12 +273,15 @@ work-rows-spec =
     input-requires
     mul-t
     element-copy-out-t
+    slice-aggregate-step-answer
     step-answer-requires
     status-number-requires
     add-place
     same-length
     same-length-2
     returns
+    mul-radii
+    array-write-radii
     put-range-requires
     put-row-requires
     add-i
