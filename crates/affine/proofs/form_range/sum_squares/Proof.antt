@@ -1,5 +1,5 @@
 -- `form_range::sum_squares` meets its contract: the loop keeps what the pairs (i,i) passed go above 0, and the sum of their coefficients.
-use mathlib.Core.Path.{_≡_}
+use mathlib.Core.Path.{_≡_, ap, _∙_}
 use mathlib.Core.Bool.{true}
 use Prim.Native.Nat.{_+_, _-_}
 use lib.IntN.{ℤ, _+ℤ_}
@@ -57,7 +57,7 @@ v-is c = back (c .before .v .given)
 
 -- what a turn adds to the first sum
 added : (c : tie.After-square-above Inv-loop μ-loop) → c .square-above .result ≡ squareReach true (v c)
-added c = rw (v-is c) at (c .square-above .ensures)
+added c = c .square-above .ensures ∙ ap (squareReach true) (v-is c)
 
 -- what holds after a turn: so neither sum wraps
 turned : (c : tie.After-square-above Inv-loop μ-loop)

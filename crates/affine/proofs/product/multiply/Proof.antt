@@ -88,7 +88,7 @@ abbrev from : Symbols → tie.Start
 from c = centred c .before .before .before
 
 centre-left : (c : Symbols) → centred c .floor-remainder-4096 .result ≡ natAbs (productRounding .remainder (centre (from c)))
-centre-left c = rw (total-is (from c)) at (centred c .floor-remainder-4096 .ensures)
+centre-left c = centred c .floor-remainder-4096 .ensures ∙ ap (λ t. natAbs (productRounding .remainder t)) (total-is (from c))
 
 linear-is : (c : Symbols) → c .before .put-linear .last .0 ≡ quotients (linearTotals (from c .args .t1) (from c .args .t3))
 linear-is c =
