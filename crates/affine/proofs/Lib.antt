@@ -14,6 +14,7 @@ pub mod Termwise
 pub mod Comparison
 pub mod Magnitude
 pub mod Totals
+pub mod LentRows
 pub mod Agreement
 pub mod CandidateSize
 pub mod Candidate

@@ -7,7 +7,6 @@ use lib.IntN.{ℤ, pos}
 use lib.ListN.{length, set, length-map}
 use mir.Syntax.{w64}
 use mir.Val.{toZ, ofZ}
-use mir.ValLaws.{toZ-ofZ}
 use borrow.Author.Needs.{needs}
 use Rattle.integer.specs.Sum.{sumAbs}
 use Rattle.integer.proofs.Machine.{back}
@@ -16,7 +15,8 @@ use Rattle.affine.specs.Limits.{pairs, paired, unit}
 use Rattle.affine.specs.PairOrder.{overUsed}
 use Rattle.affine.specs.Row.{rowOfParts}
 use Rattle.affine.specs.Product.{pairTotal, pairTotals, productRounding}
-use Rattle.affine.proofs.Totals.{length-pair-totals, pair-totals-of-parts}
+use Rattle.affine.proofs.Totals.{length-pair-totals}
+use Rattle.affine.proofs.LentRows.{LentRows, lentRows, given-x, given-y, read-x, read-y, read-x-within, read-y-within, pair-totals-read}
 use Rattle.affine.proofs.Divided.{quotient-zero, remainder-zero, remainders-within, map-pair-totals}
 use Rattle.affine.proofs.Columns.{AtPair, at-first, at-next, at-symbols, column, length-column, column-none, column-zero, column-more, column-all, column-sum-more, column-sum-within}
 use Rattle.affine.proofs.product.put_column.Statement.{statement}
@@ -38,31 +38,15 @@ abbrev μ-loop : tie.MeasureT-loop
 abbrev Start : Type 0
 Start = tie.Start Inv-loop μ-loop
 
--- ---- the two rows ..
-abbrev given-x : Start → Row
-given-x c = rowOfParts (c .args .c) (c .args .a .now) (c .args .p .now)
-
-abbrev given-y : Start → Row
-given-y c = rowOfParts (c .args .d) (c .args .b .now) (c .args .q .now)
-
--- .. as the loop reads them
-abbrev x : Start → Row
-x c = rowOfParts (toZ w64 (ofZ w64 (c .args .c))) (c .args .a .now) (c .args .p .now)
-
-abbrev y : Start → Row
-y c = rowOfParts (toZ w64 (ofZ w64 (c .args .d))) (c .args .b .now) (c .args .q .now)
-
-c-is : (c : Start) → toZ w64 (ofZ w64 (c .args .c)) ≡ c .args .c
-c-is c = toZ-ofZ w64 _ (c .fits .c)
-
-d-is : (c : Start) → toZ w64 (ofZ w64 (c .args .d)) ≡ c .args .d
-d-is c = toZ-ofZ w64 _ (c .fits .d)
+-- ---- the two rows
+abbrev lent : Start → LentRows
+lent c = let g = c .args in lentRows (g .c) (g .a .now) (g .p .now) (g .d) (g .b .now) (g .q .now) (c .fits .c) (c .fits .d)
 
 -- all totals under so many squares, each by itself
 whole : (c : Start) (h : ℤ → ℤ) → h (pos 0) ≡ pos 0 → (squares : ℕ)
-    → map h (pairTotals squares (given-x c) (given-y c)) ≡ overUsed squares (λ k. h (pairTotal (x c) (y c) k))
+    → map h (pairTotals squares (given-x (lent c)) (given-y (lent c))) ≡ overUsed squares (λ k. h (pairTotal (read-x (lent c)) (read-y (lent c)) k))
 whole c h z squares =
-    ap (map h) (sym (pair-totals-of-parts (given-x c) (given-y c) (c-is c) (d-is c) squares)) ∙ map-pair-totals h (x c) (y c) z squares
+    ap (map h) (sym (pair-totals-read (lent c) squares)) ∙ map-pair-totals h (read-x (lent c)) (read-y (lent c)) z squares
 
 loop-holds : tie.Need-loop-holds Inv-loop μ-loop
 loop-holds c =
@@ -88,11 +72,11 @@ column-small c = start c .pre .0 .0
 pair-total-requires : tie.Need-pair-total-requires Inv-loop μ-loop
 pair-total-requires c κs =
     let s = start c in
-    rw (c-is s, d-is s) (at-symbols (column-small c) (c .loop-test .taken) (place c), (s .pre .0 .1, s .pre .0 .2))
+    (at-symbols (column-small c) (c .loop-test .taken) (place c), (read-x-within (lent s) (s .pre .0 .1), read-y-within (lent s) (s .pre .0 .2)))
 
 total-is : (c : tie.After-pair-total Inv-loop μ-loop)
     → let t = c .before in
-    toZ w64 (ofZ w64 (c .pair-total .result)) ≡ pairTotal (x (start t)) (y (start t)) (t .before .loop .k)
+    toZ w64 (ofZ w64 (c .pair-total .result)) ≡ pairTotal (read-x (lent (start t))) (read-y (lent (start t))) (t .before .loop .k)
 total-is c = back (c .pair-total .ok) ∙ c .pair-total .ensures
 
 put-quotient-requires : tie.Need-put-quotient-requires Inv-loop μ-loop
@@ -115,18 +99,18 @@ turn c = totalled c .before
 sum-is : (c : Once)
     → let t = turn c in
     t .before .loop .sum + c .before .put-quotient .result
-    ≡ sumAbs (of (productRounding .remainder) (x (start t)) (y (start t)) (start t .args .j) (t .before .loop .i + 1))
+    ≡ sumAbs (of (productRounding .remainder) (read-x (lent (start t))) (read-y (lent (start t))) (start t .args .j) (t .before .loop .i + 1))
 sum-is c =
     let t = turn c in
     ap₂ _+_ (t .before .loop .inv .2) (rw (total-is (totalled c)) at (c .before .put-quotient .ensures .1))
     ∙ sym (column-sum-more _ (column-small t) (t .loop-test .taken) (place t))
 
-all-small : (c : Start) (i : ℕ) → i ≤ suc (c .args .j) → sumAbs (of (productRounding .remainder) (x c) (y c) (c .args .j) i) ≤ unit * pairs
+all-small : (c : Start) (i : ℕ) → i ≤ suc (c .args .j) → sumAbs (of (productRounding .remainder) (read-x (lent c)) (read-y (lent c)) (c .args .j) i) ≤ unit * pairs
 all-small c i h =
     let j = c .args .j in
-    let bounded = column-sum-within (λ k. productRounding .remainder (pairTotal (x c) (y c) k)) j i h in
+    let bounded = column-sum-within (λ k. productRounding .remainder (pairTotal (read-x (lent c)) (read-y (lent c)) k)) j i h in
     let all = ap sumAbs (whole c (productRounding .remainder) remainder-zero (suc j)) in
-    omega (arith, bounded, all, remainders-within (pairTotals (suc j) (given-x c) (given-y c)), length-pair-totals (suc j) (given-x c) (given-y c))
+    omega (arith, bounded, all, remainders-within (pairTotals (suc j) (given-x (lent c)) (given-y (lent c))), length-pair-totals (suc j) (given-x (lent c)) (given-y (lent c)))
 
 add-sum : tie.Need-add-sum Inv-loop μ-loop
 add-sum c = let t = turn c in omega (arith, sum-is c, all-small (start t) (t .before .loop .i + 1) (omega (arith, t .loop-test .taken)))
@@ -161,7 +145,7 @@ same-length c =
     let l = c .before in
     let s = l .before in
     ap length (l .loop .inv .1) ∙ length-column _ (s .args .j) (l .loop .i)
-    ∙ sym (ap length (s .pre .1 .0) ∙ length-map (pairTotals (s .args .j) (given-x s) (given-y s)) _ ∙ length-pair-totals (s .args .j) (given-x s) (given-y s))
+    ∙ sym (ap length (s .pre .1 .0) ∙ length-map (pairTotals (s .args .j) (given-x (lent s)) (given-y (lent s))) _ ∙ length-pair-totals (s .args .j) (given-x (lent s)) (given-y (lent s)))
 
 returns : tie.Need-returns Inv-loop μ-loop
 returns c =

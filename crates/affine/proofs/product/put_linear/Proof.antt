@@ -7,7 +7,6 @@ use lib.IntN.{ℤ, pos}
 use lib.ListN.{length, set, length-replicate}
 use mir.Syntax.{w64}
 use mir.Val.{toZ, ofZ}
-use mir.ValLaws.{toZ-ofZ}
 use borrow.Author.Needs.{needs}
 use Rattle.integer.specs.Sum.{sumAbs}
 use Rattle.integer.proofs.Machine.{back}
@@ -15,7 +14,8 @@ use Rattle.affine.specs.declared.Row.{Row}
 use Rattle.affine.specs.Limits.{symbols, unit}
 use Rattle.affine.specs.Row.{rowOfParts}
 use Rattle.affine.specs.Product.{linearTotal, linearTotals, productRounding}
-use Rattle.affine.proofs.Totals.{length-linear-totals, linear-totals-of-parts, linear-total-none}
+use Rattle.affine.proofs.Totals.{length-linear-totals, linear-total-none}
+use Rattle.affine.proofs.LentRows.{LentRows, lentRows, given-x, given-y, read-x, read-y, read-x-within, read-y-within, linear-totals-read}
 use Rattle.affine.proofs.Divided.{quotient-zero, remainder-zero, remainders-within, map-linear-totals}
 use Rattle.affine.proofs.PutSoFar.{front, length-front, front-none, front-zero, front-more, front-all, front-sum-none, front-sum-more, front-sum-within}
 use Rattle.affine.proofs.product.put_linear.Statement.{statement}
@@ -34,25 +34,9 @@ Inv-loop out₀ c a d b own remainders₀ i₀ out remainders i =
 abbrev μ-loop : tie.MeasureT-loop
 μ-loop out₀ c a d b own remainders₀ i₀ out remainders i = own - i
 
--- ---- the two rows ..
-c-is : (c : tie.Start Inv-loop μ-loop) → toZ w64 (ofZ w64 (c .args .c)) ≡ c .args .c
-c-is c = toZ-ofZ w64 _ (c .fits .c)
-
-d-is : (c : tie.Start Inv-loop μ-loop) → toZ w64 (ofZ w64 (c .args .d)) ≡ c .args .d
-d-is c = toZ-ofZ w64 _ (c .fits .d)
-
-abbrev given-x : tie.Start Inv-loop μ-loop → Row
-given-x c = rowOfParts (c .args .c) (c .args .a .now) []
-
-abbrev given-y : tie.Start Inv-loop μ-loop → Row
-given-y c = rowOfParts (c .args .d) (c .args .b .now) []
-
--- .. as the loop reads them
-abbrev x : tie.Start Inv-loop μ-loop → Row
-x c = rowOfParts (toZ w64 (ofZ w64 (c .args .c))) (c .args .a .now) []
-
-abbrev y : tie.Start Inv-loop μ-loop → Row
-y c = rowOfParts (toZ w64 (ofZ w64 (c .args .d))) (c .args .b .now) []
+-- ---- the two rows
+abbrev lent : tie.Start Inv-loop μ-loop → LentRows
+lent c = let g = c .args in lentRows (g .c) (g .a .now) [] (g .d) (g .b .now) [] (c .fits .c) (c .fits .d)
 
 loop-holds : tie.Need-loop-holds Inv-loop μ-loop
 loop-holds c = (omega arith, c .pre .0 .1 ∙ front-none symbols _, sym (front-sum-none symbols _))
@@ -68,11 +52,11 @@ inside : (c : tie.In-loop Inv-loop μ-loop) → index c < symbols
 inside c = omega (arith, c .loop-test .taken, start c .pre .0 .0)
 
 linear-total-requires : tie.Need-linear-total-requires Inv-loop μ-loop
-linear-total-requires c κs = let s = start c in (inside c, (rw (c-is s) (s .pre .1 .0), rw (d-is s) (s .pre .1 .1)))
+linear-total-requires c κs = let s = start c in (inside c, (read-x-within (lent s) (s .pre .1 .0), read-y-within (lent s) (s .pre .1 .1)))
 
 total-is : (c : tie.After-linear-total Inv-loop μ-loop)
     → let t = c .before in
-    toZ w64 (ofZ w64 (c .linear-total .result)) ≡ linearTotal (x (start t)) (y (start t)) (index t)
+    toZ w64 (ofZ w64 (c .linear-total .result)) ≡ linearTotal (read-x (lent (start t))) (read-y (lent (start t))) (index t)
 total-is c = back (c .linear-total .ok) ∙ c .linear-total .ensures
 
 put-quotient-requires : tie.Need-put-quotient-requires Inv-loop μ-loop
@@ -94,17 +78,17 @@ within c = totalled c .before
 remainder-is : (c : Once)
     → let t = within c in
     t .before .loop .remainders + c .before .put-quotient .result
-    ≡ sumAbs (of (productRounding .remainder) (x (start t)) (y (start t)) (index t + 1))
+    ≡ sumAbs (of (productRounding .remainder) (read-x (lent (start t))) (read-y (lent (start t))) (index t + 1))
 remainder-is c =
     let t = within c in
     ap₂ _+_ (t .before .loop .inv .2) ((rw (total-is (totalled c)) at (c .before .put-quotient .ensures .1)))
     ∙ sym (front-sum-more symbols _ (index t) (inside t))
 
-all-small : (c : tie.Start Inv-loop μ-loop) (i : ℕ) → sumAbs (of (productRounding .remainder) (x c) (y c) i) ≤ unit * symbols
+all-small : (c : tie.Start Inv-loop μ-loop) (i : ℕ) → sumAbs (of (productRounding .remainder) (read-x (lent c)) (read-y (lent c)) i) ≤ unit * symbols
 all-small c i =
-    let bounded = front-sum-within symbols (λ k. productRounding .remainder (linearTotal (x c) (y c) k)) i in
-    let whole = ap sumAbs (map-linear-totals (productRounding .remainder) (x c) (y c)) in
-    omega (arith, bounded, whole, remainders-within (linearTotals (x c) (y c)), length-linear-totals (x c) (y c))
+    let bounded = front-sum-within symbols (λ k. productRounding .remainder (linearTotal (read-x (lent c)) (read-y (lent c)) k)) i in
+    let whole = ap sumAbs (map-linear-totals (productRounding .remainder) (read-x (lent c)) (read-y (lent c))) in
+    omega (arith, bounded, whole, remainders-within (linearTotals (read-x (lent c)) (read-y (lent c))), length-linear-totals (read-x (lent c)) (read-y (lent c)))
 
 add-remainders : tie.Need-add-remainders Inv-loop μ-loop
 add-remainders c = let t = within c in omega (arith, remainder-is c, all-small (start t) (index t + 1))
@@ -133,13 +117,13 @@ same-length c =
 -- the totals from the own symbol on leave nothing
 whole : (c : tie.After-loop Inv-loop μ-loop) (h : ℤ → ℤ) → h (pos 0) ≡ pos 0
     → let s = c .before .before in
-    of h (x s) (y s) (c .before .loop .i) ≡ map h (linearTotals (given-x s) (given-y s))
+    of h (read-x (lent s)) (read-y (lent s)) (c .before .loop .i) ≡ map h (linearTotals (given-x (lent s)) (given-y (lent s)))
 whole c h z =
     let s = c .before .before in
-    let none = linear-total-none (x s) (y s) (s .args .own) (s .pre .0 .2) (s .pre .0 .3) in
+    let none = linear-total-none (read-x (lent s)) (read-y (lent s)) (s .args .own) (s .pre .0 .2) (s .pre .0 .3) in
     front-all symbols _ (c .before .loop .i) (λ k l. ap h (none k (omega (arith, c .loop-test .left))) ∙ z)
-    ∙ sym (map-linear-totals h (x s) (y s))
-    ∙ ap (map h) (linear-totals-of-parts (given-x s) (given-y s) (c-is s) (d-is s))
+    ∙ sym (map-linear-totals h (read-x (lent s)) (read-y (lent s)))
+    ∙ ap (map h) (linear-totals-read (lent s))
 
 returns : tie.Need-returns Inv-loop μ-loop
 returns c =

@@ -7,16 +7,15 @@ use native.Mathlib.Omega.{arith}
 use lib.IntN.{ℤ, pos}
 use lib.ListN.{length, replicate, length-map, length-replicate}
 use mir.Syntax.{w64}
-use mir.Val.{toZ, ofZ}
-use mir.ValLaws.{toZ-ofZ}
+use mir.Val.{toZ}
 use borrow.Author.Needs.{needs}
 use Rattle.integer.specs.Sum.{sumAbs}
-use Rattle.affine.specs.declared.Row.{Row}
 use Rattle.affine.specs.Limits.{pairs}
 use Rattle.affine.specs.Row.{rowOfParts}
 use Rattle.affine.specs.Product.{pairTotals, productRounding}
 use Rattle.affine.proofs.SumLaws.{sumAbs-zeros}
-use Rattle.affine.proofs.Totals.{length-pair-totals, pair-totals-of-parts}
+use Rattle.affine.proofs.Totals.{length-pair-totals}
+use Rattle.affine.proofs.LentRows.{LentRows, lentRows, given-x, given-y, read-x, read-y, read-x-within, read-y-within, pair-totals-read}
 use Rattle.affine.proofs.Columns.{used-none}
 use Rattle.affine.proofs.Divided.{quotients, remainders, quotient-zero, remainder-zero, map-pair-totals}
 use Rattle.affine.proofs.product.put_pairs.Statement.{statement}
@@ -33,29 +32,13 @@ abbrev μ-loop : tie.MeasureT-loop
 abbrev Start : Type 0
 Start = tie.Start Inv-loop μ-loop
 
--- ---- the two rows ..
-abbrev given-x : Start → Row
-given-x c = rowOfParts (c .args .c) (c .args .a .now) (c .args .p .now)
-
-abbrev given-y : Start → Row
-given-y c = rowOfParts (c .args .d) (c .args .b .now) (c .args .q .now)
-
--- .. as the loop reads them
-abbrev x : Start → Row
-x c = rowOfParts (toZ w64 (ofZ w64 (c .args .c))) (c .args .a .now) (c .args .p .now)
-
-abbrev y : Start → Row
-y c = rowOfParts (toZ w64 (ofZ w64 (c .args .d))) (c .args .b .now) (c .args .q .now)
-
-c-is : (c : Start) → toZ w64 (ofZ w64 (c .args .c)) ≡ c .args .c
-c-is c = toZ-ofZ w64 _ (c .fits .c)
-
-d-is : (c : Start) → toZ w64 (ofZ w64 (c .args .d)) ≡ c .args .d
-d-is c = toZ-ofZ w64 _ (c .fits .d)
+-- ---- the two rows
+abbrev lent : Start → LentRows
+lent c = let g = c .args in lentRows (g .c) (g .a .now) (g .p .now) (g .d) (g .b .now) (g .q .now) (c .fits .c) (c .fits .d)
 
 -- no pair is in use
-none-used : (c : Start) (h : ℤ → ℤ) → h (pos 0) ≡ pos 0 → replicate pairs (pos 0) ≡ map h (pairTotals 0 (x c) (y c))
-none-used c h z = used-none _ ∙ sym (map-pair-totals h (x c) (y c) z 0)
+none-used : (c : Start) (h : ℤ → ℤ) → h (pos 0) ≡ pos 0 → replicate pairs (pos 0) ≡ map h (pairTotals 0 (read-x (lent c)) (read-y (lent c)))
+none-used c h z = used-none _ ∙ sym (map-pair-totals h (read-x (lent c)) (read-y (lent c)) z 0)
 
 loop-holds : tie.Need-loop-holds Inv-loop μ-loop
 loop-holds c = (
@@ -69,7 +52,7 @@ put-column-requires c κs =
     let t = c .before in
     let s = t .before .before in
     let inv = t .before .loop .inv in
-    ((omega (arith, t .loop-test .taken, s .pre .0 .0), rw (c-is s) (s .pre .1 .0), rw (d-is s) (s .pre .1 .1)), (inv .1, inv .2))
+    ((omega (arith, t .loop-test .taken, s .pre .0 .0), read-x-within (lent s) (s .pre .1 .0), read-y-within (lent s) (s .pre .1 .1)), (inv .1, inv .2))
 
 add-j : tie.Need-add-j Inv-loop μ-loop
 add-j c = search needs
@@ -87,18 +70,18 @@ same-length : tie.Need-same-length Inv-loop μ-loop
 same-length c =
     let l = c .before in
     let s = l .before in
-    ap length (l .loop .inv .1) ∙ length-map (pairTotals (l .loop .j) (x s) (y s)) _ ∙ length-pair-totals (l .loop .j) (x s) (y s)
+    ap length (l .loop .inv .1) ∙ length-map (pairTotals (l .loop .j) (read-x (lent s)) (read-y (lent s))) _ ∙ length-pair-totals (l .loop .j) (read-x (lent s)) (read-y (lent s))
     ∙ sym (ap length (s .pre .0 .1) ∙ length-replicate pairs (pos 0))
 
 -- all pairs in use
 all-used : (c : tie.After-loop Inv-loop μ-loop)
     → let s = c .before .before in
-    pairTotals (c .before .loop .j) (x s) (y s) ≡ pairTotals (s .args .squares) (given-x s) (given-y s)
+    pairTotals (c .before .loop .j) (read-x (lent s)) (read-y (lent s)) ≡ pairTotals (s .args .squares) (given-x (lent s)) (given-y (lent s))
 all-used c =
     let l = c .before in
     let s = l .before in
     let all : l .loop .j ≡ s .args .squares = omega (arith, l .loop .inv .0, c .loop-test .left) in
-    ap (λ n. pairTotals n (x s) (y s)) all ∙ pair-totals-of-parts (given-x s) (given-y s) (c-is s) (d-is s) (s .args .squares)
+    ap (λ n. pairTotals n (read-x (lent s)) (read-y (lent s))) all ∙ pair-totals-read (lent s) (s .args .squares)
 
 returns : tie.Need-returns Inv-loop μ-loop
 returns c =

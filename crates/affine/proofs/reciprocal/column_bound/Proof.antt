@@ -4,17 +4,15 @@ use Prim.Native.Nat.{ℕ, suc, _+_, _-_, _≤_, _<_}
 use native.Mathlib.Omega.{arith}
 use lib.IntN.{natAbs}
 use mir.Syntax.{w64}
-use mir.Val.{toZ, ofZ}
-use mir.ValLaws.{toZ-ofZ}
+use mir.Val.{toZ}
 use borrow.Author.Needs.{needs}
 use Rattle.integer.specs.Sum.{sumAbs}
 use Rattle.integer.proofs.Machine.{back}
-use Rattle.affine.specs.declared.Row.{Row}
 use Rattle.affine.specs.Limits.{pairs, spanLimit}
 use Rattle.affine.specs.PairOrder.{firstOf, secondOf}
 use Rattle.affine.specs.Row.{rowOfParts, span}
 use Rattle.affine.specs.Product.{pairTotal, pairTotals}
-use Rattle.affine.proofs.Totals.{pair-totals-of-parts}
+use Rattle.affine.proofs.LentRows.{LentRows, lentRows, given-x, given-y, read-x, read-y, read-x-within, read-y-within, pair-totals-read}
 use Rattle.affine.proofs.Columns.{AtPair, at-first, at-next, at-symbols, column-sum-more}
 use Rattle.affine.proofs.ErrorBound.{pairSum, pair-sum-within, pair-sum-first, pair-sum-last}
 use Rattle.affine.proofs.reciprocal.column_bound.Statement.{statement}
@@ -26,40 +24,24 @@ Inv-loop bound c a p d b q j sum₀ i₀ k₀ sum i k = AtPair j i k × (sum ≡
 abbrev μ-loop : tie.MeasureT-loop
 μ-loop bound c a p d b q j sum₀ i₀ k₀ sum i k = suc j - i
 
--- ---- the two rows ..
-abbrev given-x : tie.Start Inv-loop μ-loop → Row
-given-x c = rowOfParts (c .args .c) (c .args .a .now) (c .args .p .now)
+-- ---- the two rows
+abbrev lent : tie.Start Inv-loop μ-loop → LentRows
+lent c = let g = c .args in lentRows (g .c) (g .a .now) (g .p .now) (g .d) (g .b .now) (g .q .now) (c .fits .c) (c .fits .d)
 
-abbrev given-y : tie.Start Inv-loop μ-loop → Row
-given-y c = rowOfParts (c .args .d) (c .args .b .now) (c .args .q .now)
+x-within : (c : tie.Start Inv-loop μ-loop) → span (read-x (lent c)) ≤ spanLimit
+x-within c = read-x-within (lent c) (c .pre .0 .1)
 
-c-is : (c : tie.Start Inv-loop μ-loop) → toZ w64 (ofZ w64 (c .args .c)) ≡ c .args .c
-c-is c = toZ-ofZ w64 _ (c .fits .c)
-
-d-is : (c : tie.Start Inv-loop μ-loop) → toZ w64 (ofZ w64 (c .args .d)) ≡ c .args .d
-d-is c = toZ-ofZ w64 _ (c .fits .d)
-
--- .. as the loop reads them
-abbrev x : tie.Start Inv-loop μ-loop → Row
-x c = rowOfParts (toZ w64 (ofZ w64 (c .args .c))) (c .args .a .now) (c .args .p .now)
-
-abbrev y : tie.Start Inv-loop μ-loop → Row
-y c = rowOfParts (toZ w64 (ofZ w64 (c .args .d))) (c .args .b .now) (c .args .q .now)
-
-x-within : (c : tie.Start Inv-loop μ-loop) → span (x c) ≤ spanLimit
-x-within c = rw (c-is c) (c .pre .0 .1)
-
-y-within : (c : tie.Start Inv-loop μ-loop) → span (y c) ≤ spanLimit
-y-within c = rw (d-is c) (c .pre .0 .2)
+y-within : (c : tie.Start Inv-loop μ-loop) → span (read-y (lent c)) ≤ spanLimit
+y-within c = read-y-within (lent c) (c .pre .0 .2)
 
 -- their totals under so many symbols
-totals-are : (c : tie.Start Inv-loop μ-loop) (squares : ℕ) → pairTotals squares (x c) (y c) ≡ pairTotals squares (given-x c) (given-y c)
-totals-are c squares = pair-totals-of-parts (given-x c) (given-y c) (c-is c) (d-is c) squares
+totals-are : (c : tie.Start Inv-loop μ-loop) (squares : ℕ) → pairTotals squares (read-x (lent c)) (read-y (lent c)) ≡ pairTotals squares (given-x (lent c)) (given-y (lent c))
+totals-are c squares = pair-totals-read (lent c) squares
 
 loop-holds : tie.Need-loop-holds Inv-loop μ-loop
 loop-holds c =
     let j = c .args .j in
-    (at-first j, c .pre .1 ∙ ap sumAbs (sym (totals-are c j)) ∙ pair-sum-first (x c) (y c) j)
+    (at-first j, c .pre .1 ∙ ap sumAbs (sym (totals-are c j)) ∙ pair-sum-first (read-x (lent c)) (read-y (lent c)) j)
 
 -- ---- a turn
 abbrev start : tie.In-loop Inv-loop μ-loop → tie.Start Inv-loop μ-loop
@@ -85,19 +67,19 @@ turn c = c .before .before
 
 sum-is : (c : Added)
     → let o = turn c .before in
-    o .loop .sum + c .absolute .result ≡ pairSum (x (o .before)) (y (o .before)) (o .before .args .j) (o .loop .i + 1)
+    o .loop .sum + c .absolute .result ≡ pairSum (read-x (lent (o .before))) (read-y (lent (o .before))) (o .before .args .j) (o .loop .i + 1)
 sum-is c =
     let o = turn c .before in
     let s = o .before in
     ap₂ _+_ (o .loop .inv .1) (c .absolute .ensures ∙ ap natAbs (back (c .before .pair-total .ok) ∙ c .before .pair-total .ensures))
-    ∙ sym (column-sum-more (pairTotal (x s) (y s)) (s .pre .0 .0) (turn c .loop-test .taken) (o .loop .inv .0))
+    ∙ sym (column-sum-more (pairTotal (read-x (lent s)) (read-y (lent s))) (s .pre .0 .0) (turn c .loop-test .taken) (o .loop .inv .0))
 
 add-sum : tie.Need-add-sum Inv-loop μ-loop
 add-sum c =
     let o = turn c .before in
     let s = o .before in
     let l : o .loop .i + 1 ≤ suc (s .args .j) = omega (arith, turn c .loop-test .taken) in
-    omega (arith, sum-is c, pair-sum-within (x s) (y s) (x-within s) (y-within s) (s .args .j) (o .loop .i + 1) l)
+    omega (arith, sum-is c, pair-sum-within (read-x (lent s)) (read-y (lent s)) (x-within s) (y-within s) (s .args .j) (o .loop .i + 1) l)
 
 sub-k : tie.Need-sub-k Inv-loop μ-loop
 sub-k c = search needs
@@ -123,7 +105,7 @@ returns : tie.Need-returns Inv-loop μ-loop
 returns c =
     let o = c .before in
     let s = o .before in
-    o .loop .inv .1 ∙ pair-sum-last (x s) (y s) (o .loop .inv .0) (c .loop-test .left) ∙ ap sumAbs (totals-are s (suc (s .args .j)))
+    o .loop .inv .1 ∙ pair-sum-last (read-x (lent s)) (read-y (lent s)) (o .loop .inv .0) (c .loop-test .left) ∙ ap sumAbs (totals-are s (suc (s .args .j)))
 
 pub column-bound-spec : {M : Type 1} → statement M
 column-bound-spec =

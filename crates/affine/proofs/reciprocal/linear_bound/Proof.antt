@@ -5,16 +5,14 @@ use Prim.Native.Nat.{ℕ, _+_, _-_, _≤_, _<_}
 use native.Mathlib.Omega.{arith}
 use mir.Syntax.{w64}
 use mir.Val.{toZ, ofZ}
-use mir.ValLaws.{toZ-ofZ}
 use borrow.Author.Needs.{needs}
 use lib.IntN.{natAbs}
 use Rattle.integer.specs.Sum.{sumAbs}
 use Rattle.integer.proofs.Machine.{back}
-use Rattle.affine.specs.declared.Row.{Row}
 use Rattle.affine.specs.Limits.{symbols, spanLimit}
 use Rattle.affine.specs.Row.{rowOfParts, span}
 use Rattle.affine.specs.Product.{linearTotal}
-use Rattle.affine.proofs.Totals.{linear-totals-of-parts}
+use Rattle.affine.proofs.LentRows.{LentRows, lentRows, read-x, read-y, read-x-within, read-y-within, linear-totals-read}
 use Rattle.affine.proofs.PutSoFar.{front-sum-none, front-sum-more}
 use Rattle.affine.proofs.ErrorBound.{linearSum, linear-sum-within, linear-sum-all}
 use Rattle.affine.proofs.reciprocal.linear_bound.Statement.{statement}
@@ -26,34 +24,18 @@ Inv-loop c a d b own sum₀ i₀ sum i = (i ≤ own) × (sum ≡ linearSum (rowO
 abbrev μ-loop : tie.MeasureT-loop
 μ-loop c a d b own sum₀ i₀ sum i = own - i
 
--- ---- the two rows ..
-abbrev given-x : tie.Start Inv-loop μ-loop → Row
-given-x c = rowOfParts (c .args .c) (c .args .a .now) []
+-- ---- the two rows
+abbrev lent : tie.Start Inv-loop μ-loop → LentRows
+lent c = let g = c .args in lentRows (g .c) (g .a .now) [] (g .d) (g .b .now) [] (c .fits .c) (c .fits .d)
 
-abbrev given-y : tie.Start Inv-loop μ-loop → Row
-given-y c = rowOfParts (c .args .d) (c .args .b .now) []
+x-within : (c : tie.Start Inv-loop μ-loop) → span (read-x (lent c)) ≤ spanLimit
+x-within c = read-x-within (lent c) (c .pre .1 .0)
 
-c-is : (c : tie.Start Inv-loop μ-loop) → toZ w64 (ofZ w64 (c .args .c)) ≡ c .args .c
-c-is c = toZ-ofZ w64 _ (c .fits .c)
-
-d-is : (c : tie.Start Inv-loop μ-loop) → toZ w64 (ofZ w64 (c .args .d)) ≡ c .args .d
-d-is c = toZ-ofZ w64 _ (c .fits .d)
-
--- .. as the loop reads them
-abbrev x : tie.Start Inv-loop μ-loop → Row
-x c = rowOfParts (toZ w64 (ofZ w64 (c .args .c))) (c .args .a .now) []
-
-abbrev y : tie.Start Inv-loop μ-loop → Row
-y c = rowOfParts (toZ w64 (ofZ w64 (c .args .d))) (c .args .b .now) []
-
-x-within : (c : tie.Start Inv-loop μ-loop) → span (x c) ≤ spanLimit
-x-within c = rw (c-is c) (c .pre .1 .0)
-
-y-within : (c : tie.Start Inv-loop μ-loop) → span (y c) ≤ spanLimit
-y-within c = rw (d-is c) (c .pre .1 .1)
+y-within : (c : tie.Start Inv-loop μ-loop) → span (read-y (lent c)) ≤ spanLimit
+y-within c = read-y-within (lent c) (c .pre .1 .1)
 
 loop-holds : tie.Need-loop-holds Inv-loop μ-loop
-loop-holds c = (omega arith, sym (front-sum-none symbols (linearTotal (x c) (y c))))
+loop-holds c = (omega arith, sym (front-sum-none symbols (linearTotal (read-x (lent c)) (read-y (lent c)))))
 
 -- ---- a turn
 abbrev start : tie.In-loop Inv-loop μ-loop → tie.Start Inv-loop μ-loop
@@ -80,22 +62,22 @@ within c = c .before .before
 
 total-is : (c : tie.After-linear-total Inv-loop μ-loop)
     → let t = c .before in
-    toZ w64 (ofZ w64 (c .linear-total .result)) ≡ linearTotal (x (start t)) (y (start t)) (index t)
+    toZ w64 (ofZ w64 (c .linear-total .result)) ≡ linearTotal (read-x (lent (start t))) (read-y (lent (start t))) (index t)
 total-is c = back (c .linear-total .ok) ∙ c .linear-total .ensures
 
 sum-is : (c : Added)
     → let t = within c in
-    t .before .loop .sum + c .absolute .result ≡ linearSum (x (start t)) (y (start t)) (index t + 1)
+    t .before .loop .sum + c .absolute .result ≡ linearSum (read-x (lent (start t))) (read-y (lent (start t))) (index t + 1)
 sum-is c =
     let t = within c in
     ap₂ _+_ (t .before .loop .inv .1) (c .absolute .ensures ∙ ap natAbs (total-is (c .before)))
-    ∙ sym (front-sum-more symbols (linearTotal (x (start t)) (y (start t))) (index t) (inside t))
+    ∙ sym (front-sum-more symbols (linearTotal (read-x (lent (start t))) (read-y (lent (start t)))) (index t) (inside t))
 
 add-sum : tie.Need-add-sum Inv-loop μ-loop
 add-sum c =
     let t = within c in
     let s = start t in
-    omega (arith, sum-is c, linear-sum-within (x s) (y s) (x-within s) (y-within s) (index t + 1))
+    omega (arith, sum-is c, linear-sum-within (read-x (lent s)) (read-y (lent s)) (x-within s) (y-within s) (index t + 1))
 
 add-i : tie.Need-add-i Inv-loop μ-loop
 add-i c = omega (arith, inside (within c))
@@ -111,8 +93,8 @@ returns c =
     let l = c .before in
     let s = l .before in
     l .loop .inv .1
-    ∙ linear-sum-all (x s) (y s) (s .pre .0 .1) (s .pre .0 .2) (l .loop .i) (c .loop-test .left)
-    ∙ ap sumAbs (linear-totals-of-parts (given-x s) (given-y s) (c-is s) (d-is s))
+    ∙ linear-sum-all (read-x (lent s)) (read-y (lent s)) (s .pre .0 .1) (s .pre .0 .2) (l .loop .i) (c .loop-test .left)
+    ∙ ap sumAbs (linear-totals-read (lent s))
 
 pub linear-bound-spec : {M : Type 1} → statement M
 linear-bound-spec =

@@ -4,15 +4,13 @@ use Prim.Native.Nat.{_-_, _≤_}
 use native.Mathlib.Omega.{arith}
 use native.Mathlib.Numerals.{add-one}
 use mir.Syntax.{w64}
-use mir.Val.{toZ, ofZ}
-use mir.ValLaws.{toZ-ofZ}
+use mir.Val.{toZ}
 use borrow.Author.Needs.{needs}
 use Rattle.integer.specs.Sum.{sumAbs}
-use Rattle.affine.specs.declared.Row.{Row}
 use Rattle.affine.specs.Limits.{spanLimit}
 use Rattle.affine.specs.Row.{rowOfParts, span}
 use Rattle.affine.specs.Product.{pairTotals}
-use Rattle.affine.proofs.Totals.{pair-totals-of-parts}
+use Rattle.affine.proofs.LentRows.{LentRows, lentRows, read-x, read-y, read-x-within, read-y-within, pair-totals-read}
 use Rattle.affine.proofs.ErrorBound.{pair-sum-none}
 use Rattle.affine.proofs.reciprocal.pair_bound.Statement.{statement}
 use Rattle.affine.proofs.reciprocal.pair_bound.Tie as tie
@@ -24,34 +22,18 @@ Inv-loop c a p d b q squares bound₀ j₀ bound j =
 abbrev μ-loop : tie.MeasureT-loop
 μ-loop c a p d b q squares bound₀ j₀ bound j = squares - j
 
--- ---- the two rows ..
-abbrev given-x : tie.Start Inv-loop μ-loop → Row
-given-x c = rowOfParts (c .args .c) (c .args .a .now) (c .args .p .now)
+-- ---- the two rows
+abbrev lent : tie.Start Inv-loop μ-loop → LentRows
+lent c = let g = c .args in lentRows (g .c) (g .a .now) (g .p .now) (g .d) (g .b .now) (g .q .now) (c .fits .c) (c .fits .d)
 
-abbrev given-y : tie.Start Inv-loop μ-loop → Row
-given-y c = rowOfParts (c .args .d) (c .args .b .now) (c .args .q .now)
+x-within : (c : tie.Start Inv-loop μ-loop) → span (read-x (lent c)) ≤ spanLimit
+x-within c = read-x-within (lent c) (c .pre .1)
 
-c-is : (c : tie.Start Inv-loop μ-loop) → toZ w64 (ofZ w64 (c .args .c)) ≡ c .args .c
-c-is c = toZ-ofZ w64 _ (c .fits .c)
-
-d-is : (c : tie.Start Inv-loop μ-loop) → toZ w64 (ofZ w64 (c .args .d)) ≡ c .args .d
-d-is c = toZ-ofZ w64 _ (c .fits .d)
-
--- .. as the loop reads them
-abbrev x : tie.Start Inv-loop μ-loop → Row
-x c = rowOfParts (toZ w64 (ofZ w64 (c .args .c))) (c .args .a .now) (c .args .p .now)
-
-abbrev y : tie.Start Inv-loop μ-loop → Row
-y c = rowOfParts (toZ w64 (ofZ w64 (c .args .d))) (c .args .b .now) (c .args .q .now)
-
-x-within : (c : tie.Start Inv-loop μ-loop) → span (x c) ≤ spanLimit
-x-within c = rw (c-is c) (c .pre .1)
-
-y-within : (c : tie.Start Inv-loop μ-loop) → span (y c) ≤ spanLimit
-y-within c = rw (d-is c) (c .pre .2)
+y-within : (c : tie.Start Inv-loop μ-loop) → span (read-y (lent c)) ≤ spanLimit
+y-within c = read-y-within (lent c) (c .pre .2)
 
 loop-holds : tie.Need-loop-holds Inv-loop μ-loop
-loop-holds c = (omega arith, pair-sum-none (x c) (y c))
+loop-holds c = (omega arith, pair-sum-none (read-x (lent c)) (read-y (lent c)))
 
 -- ---- a turn
 column-bound-requires : tie.Need-column-bound-requires Inv-loop μ-loop
@@ -74,8 +56,8 @@ returns c =
     let s = o .before in
     let all : o .loop .j ≡ s .args .squares = omega (arith, c .loop-test .left, o .loop .inv .0) in
     o .loop .inv .1
-    ∙ ap (λ n. sumAbs (pairTotals n (x s) (y s))) all
-    ∙ ap sumAbs (pair-totals-of-parts (given-x s) (given-y s) (c-is s) (d-is s) (s .args .squares))
+    ∙ ap (λ n. sumAbs (pairTotals n (read-x (lent s)) (read-y (lent s)))) all
+    ∙ ap sumAbs (pair-totals-read (lent s) (s .args .squares))
 
 pub pair-bound-spec : {M : Type 1} → statement M
 pair-bound-spec =
