@@ -26,7 +26,7 @@ FORMULAS = pathlib.Path(__file__).resolve().parent / "formulas"
 FEW, MANY = 100, 400
 TIMED = 20_000
 RUNS = 15
-EVALUATED = ("multiply", "reciprocal", "reciprocals", "add")
+EVALUATED = ("multiply", "reciprocal", "reciprocals", "root", "roots", "add")
 LISTED = 3_000
 FORMULAS_READ = 1_000
 
@@ -141,7 +141,7 @@ def print_run_names(what: str) -> None:
 
 def measure_listing(ours: str, plain: str) -> None:
     print_run_names("listing")
-    for name in ("multiply", "reciprocals", "add"):
+    for name in ("multiply", "reciprocals", "roots", "add"):
         given = str(SHEETS / name)
         measure_run(name, Run([ours], given, "main"), Run([plain], given, "plain_listing::main"), LISTED)
 

@@ -8,6 +8,7 @@ noise symbols. A row's range is there its answered range, as the second table ho
 holds ways to get rows and ranges wrong in which it must find violations.
 """
 
+import math
 import random
 import sys
 from fractions import Fraction
@@ -17,10 +18,11 @@ import generate
 import rows
 import sheet
 
-# The clauses of demand 3, in its order.
+# The clauses of demand 3, in its order, and what a root asks for its exact value.
 EQUAL_EXACTLY_WHEN = "the two are equal at every row exactly when each symbol has its found value"
 FOUND = "every found value lies from -1 to 1"
 DIVISOR = "no exact divisor is zero"
+ROOT = "every exact value that a root names is at least a unit"
 RANGE = "each exact value lies in its row's range"
 SAME = "rows of one sheet with identical numbers have equal exact values"
 
@@ -32,13 +34,24 @@ class ZeroDivisor(Exception):
     """An exact divisor is zero."""
 
 
+class NoRoot(Exception):
+    """The exact value that a root names is below a unit."""
+
+
 class TooLong(Exception):
     """An exact value has more bits than BITS_LIMIT."""
 
 
+def exact_root(value: Fraction) -> Fraction:
+    """"for an exact value of X units, the whole-number root of 4096 × X, rounded down": the greatest
+    whole number whose square is at most 4096 × X, over 4096. A whole number's square is at most a
+    fraction exactly when it is at most the fraction rounded down."""
+    return Fraction(math.isqrt(math.floor(rows.UNIT * rows.UNIT * value)), rows.UNIT)
+
+
 def exact_step(step, exact):
     """"The exact value of a step is its code's sum, difference, product or reciprocal of the exact
-    values named, in fractions, a whole number meaning itself over 4096"."""
+    values named, in fractions, a whole number meaning itself over 4096"; of code 6 the root."""
     if step.code == sheet.CONSTANT:
         return Fraction(step.value, rows.UNIT)
     first = exact[step.first - 1]
@@ -46,6 +59,10 @@ def exact_step(step, exact):
         if first == 0:
             raise ZeroDivisor
         return 1 / first
+    if step.code == sheet.ROOT:
+        if rows.UNIT * first < 1:
+            raise NoRoot
+        return exact_root(first)
     second = exact[step.second - 1]
     if step.code == sheet.ADD:
         return first + second
@@ -135,6 +152,8 @@ def violations(schedule, inputs, symbols) -> list[str]:
         exact = exact_values(schedule, inputs)
     except ZeroDivisor:
         return [DIVISOR]
+    except NoRoot:
+        return [ROOT]
     numbers = range(1, count + 1)
     form_rows = [evaluation.row_part(table, count, number) for number in numbers]
     found = found_values(form_rows, exact)
@@ -159,11 +178,21 @@ def violations(schedule, inputs, symbols) -> list[str]:
 
 
 def any_inputs(rng, schedule) -> list[Fraction]:
-    """Inputs within their ends: at an end, at the middle, or anywhere between."""
-    return [
-        (low + (high - low) * rng.choice((0, 0, 1, 1, Fraction(1, 2), any_part(rng)))) / rows.UNIT
-        for low, high in (map(Fraction, end) for end in schedule.ends[: schedule.counts.inputs])
-    ]
+    """Inputs within their ends: at an end, at the middle, anywhere between, or about a square."""
+    ends = schedule.ends[: schedule.counts.inputs]
+    parts = [rng.choice((0, 0, 1, 1, Fraction(1, 2), any_part(rng))) for _ in ends]
+    inputs = [low + (high - low) * part for (low, high), part in zip(ends, parts)]
+    return [about_square(rng, *end, units) / rows.UNIT for end, units in zip(ends, inputs)]
+
+
+def about_square(rng, low: int, high: int, units) -> Fraction:
+    """So many units, or moved to where 4096 times them is a square, or short of one by 1/1000: there
+    the root, rounded down, loses nothing or nearly 1."""
+    if units < 0 or rng.random() < 0.5:
+        return Fraction(units)
+    square = math.isqrt(math.floor(rows.UNIT * units)) ** 2
+    moved = (square - rng.choice((0, Fraction(1, 1000), Fraction(1, 1000)))) / Fraction(rows.UNIT)
+    return min(max(moved, Fraction(low)), Fraction(high))
 
 
 def any_part(rng) -> Fraction:

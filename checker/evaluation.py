@@ -1,11 +1,13 @@
 """Evaluation into two lent tables, and the calls that ask about rows of a table.
 
-The specification, causes 6 to 9 of "Causes and what follows" (manual, section 6), and the request
-2026-02. A lent table is a Python list of numbers. The first holds the 52 numbers of each row; the
-second, the table of ranges, holds two numbers a row: the low and the high that are answered.
+The specification, causes 6 to 9 of "Causes and what follows" and 12 (manual, section 6), and the
+requests 2026-02 and 2026-04. A lent table is a Python list of numbers. The first holds the 52
+numbers of each row; the second, the table of ranges, holds two numbers a row: the low and the high
+that are answered.
 
 A row has two ranges. Its own range is that of its form, or of an input its ends; a reciprocal takes
-its test and its distance from there. Its answered range is what is stored, told and printed.
+its test and its distance from there, a root its test and its low. Its answered range is what is
+stored, told and printed.
 """
 
 from typing import NamedTuple
@@ -63,6 +65,8 @@ def input_or_step_numbers(schedule, row: int, worked):
     first = worked[step.first - 1]
     if step.code == sheet.RECIPROCAL:
         return rows.reciprocal(first.numbers, first.own_range, squares, row)
+    if step.code == sheet.ROOT:
+        return rows.root(first.numbers, first.own_range, squares, row)
     second = worked[step.second - 1]
     if step.code == sheet.ADD:
         return rows.add(first.numbers, second.numbers)
@@ -96,7 +100,8 @@ def row_count(schedule) -> int:
 
 
 def work(schedule) -> Work:
-    """The rows of a schedule that passes 3, 4, 5: "then row by row, 7 before 6"."""
+    """The rows of a schedule that passes 3, 4, 5: "then row by row, 7 before 6"; 12
+    "stands where 7 does"."""
     worked = []
     for row in range(1, row_count(schedule) + 1):
         try:
@@ -121,8 +126,8 @@ def store(worked, table: list, ranges: list) -> None:
 
 def evaluate(schedule, table: list, ranges: list) -> Answer:
     """"Evaluation needs 52 numbers for each row and writes no others. After 6 or 7 the rows
-    before the place are written."; "evaluation also fills a second lent table, two numbers a row,
-    with the answered low and high"."""
+    before the place are written."; of 12 "place and table as for 7"; "evaluation also fills a
+    second lent table, two numbers a row, with the answered low and high"."""
     try:
         sheet.test(schedule)
     except sheet.Refusal as refusal:

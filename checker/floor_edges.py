@@ -1,11 +1,15 @@
 #!/usr/bin/env python3
-"""The lines that the program floor_edges must print, by Python's own division, which rounds down."""
+"""The lines that the program floor_edges must print, by Python's own division and whole-number root, which round down."""
+
+from math import isqrt
 
 LEAST, GREATEST, MOST = -2**63, 2**63 - 1, 2**64 - 1
 
 DIVIDENDS = [0, 1, -1, 4095, -4095, 4096, -4096, 4097, -4097, 2**60, -2**60, GREATEST, LEAST]
 DIVISORS = [1, -1, 3, -3, 4096, -4096, 2**30, -2**30, GREATEST, LEAST]
 NATURALS = [1, 3, 4095, 4096, 2**30, 2**60, MOST - 1, MOST]
+SQUARES = [9, 2**24, 2**42, (2**32 - 1) ** 2]
+RADICANDS = [0, 1, 2, 3, 4, *(n + d for n in SQUARES for d in (-1, 0, 1)), MOST]
 
 for a in DIVIDENDS:
     for d in DIVISORS:
@@ -15,3 +19,5 @@ for a in DIVIDENDS:
 for d in NATURALS:
     for n in [0] + NATURALS:
         print("ceiling", n, d, -(-n // d))
+for n in RADICANDS:
+    print("root", n, isqrt(n))

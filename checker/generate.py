@@ -7,6 +7,7 @@ Every sheet depends on its seed and index alone, so a sheet found by compare.py 
 """
 
 import collections
+import math
 import random
 import sys
 
@@ -72,6 +73,9 @@ class Draft:
     def reciprocal(self, first) -> int:
         return self.step(sheet.RECIPROCAL, first)
 
+    def root(self, first) -> int:
+        return self.step(sheet.ROOT, first)
+
     def schedule(self) -> sheet.Schedule:
         return sheet.schedule(self.squares, self.ends, self.steps)
 
@@ -84,9 +88,20 @@ def magnitude(rng) -> int:
     return min(LIMIT, rng.randrange(1 << rng.randint(0, 28)) + rng.randint(0, 1))
 
 
+def near_square(rng) -> int:
+    """A whole number c from 0 on for which 4096 × c is a square, or c itself one off such a number;
+    or one for which 4096 × c is one less than a square, that of 2048 × m ± 1."""
+    if rng.random() < 0.3:
+        m = rng.randint(1, 1 << rng.randint(0, 9))
+        return min(LIMIT, 1024 * m * m + rng.choice((-m, m)) + rng.choice((0, 0, 1)))
+    k = rng.randint(1, 1 << rng.randint(1, 14))
+    return min(LIMIT, k * k + rng.choice((-1, 0, 0, 1)))
+
+
 def any_value(rng) -> int:
-    """A constant: small, near a power of two, a multiple of the unit, at the limits, or any."""
-    kind = rng.randrange(6)
+    """A constant: small, near a power of two, a multiple of the unit, at the limits, near a square,
+    or any."""
+    kind = rng.randrange(7)
     if kind == 0:
         return rng.randint(-3, 3)
     if kind == 1:
@@ -96,6 +111,8 @@ def any_value(rng) -> int:
         return rows.UNIT * rng.randint(-40, 40)
     if kind == 3:
         return rng.choice((-LIMIT, -LIMIT + 1, LIMIT - 1, LIMIT))
+    if kind == 4:
+        return near_square(rng)
     return rng.choice((-1, 1)) * magnitude(rng)
 
 
@@ -142,6 +159,29 @@ def odd_sum(rng):
     return (near, far) if rng.random() < 0.6 else (-far, -near)
 
 
+def whole_slope(rng):
+    """Ends about 1024 × j² so far apart that a root's slope is whole, and B below the divisor: then
+    the own coefficient is 2, the least for a form with a slope."""
+    j = rng.randint(1, 1 << rng.randint(0, 6))
+    apart = j * rng.randint(1, math.isqrt(1900 * j))
+    return (1024 * j * j - apart, 1024 * j * j + apart)
+
+
+def at_squares(rng):
+    """Ends from 0 on, at squares or one off: far apart, or about one square."""
+    if rng.random() < 0.3:
+        return whole_slope(rng)
+    low = near_square(rng)
+    high = rng.choice((low, low + 1, low + 2, near_square(rng), near_square(rng)))
+    return (min(low, high), min(max(low, high), LIMIT))
+
+
+def from_low(rng):
+    """Ends from a low one about 1, where a root begins to be accepted."""
+    low = rng.choice((0, 1, 1, 1, 2))
+    return (low, low + min(LIMIT - 2, rng.choice((0, 1, 1, 2, 3, rng.randint(1, 40), magnitude(rng)))))
+
+
 def at_the_limits(rng):
     ends = [rng.choice((-LIMIT, -LIMIT + 1, -1, 0, 1, LIMIT - 1, LIMIT)) for _ in range(2)]
     return tuple(sorted(ends))
@@ -149,7 +189,7 @@ def at_the_limits(rng):
 
 ENDS = [
     around_zero, symmetric, one_sided, near_one, near_one, at_zero_width, touching_zero, odd_sum,
-    at_the_limits,
+    at_squares, from_low, at_the_limits,
 ]
 
 
@@ -171,11 +211,13 @@ def any_step(rng, draft):
     def named():
         return max(rng.randint(1, draft.last()) for _ in range(rng.randint(1, 2)))
 
-    code = rng.choices((1, 2, 3, 4, 5), weights=(3, 3, 3, 6, 4))[0]
+    code = rng.choices((1, 2, 3, 4, 5, 6), weights=(3, 3, 3, 6, 4, 5))[0]
     if code == sheet.CONSTANT:
         return draft.constant(any_value(rng))
     if code == sheet.RECIPROCAL:
         return draft.reciprocal(named())
+    if code == sheet.ROOT:
+        return draft.root(named())
     return draft.step(code, named(), named())
 
 
@@ -198,7 +240,8 @@ def accepted(rng, steps=None, ends=any_ends) -> Draft:
 
 
 def late_refusal(rng) -> Draft:
-    """A sheet with accepted rows and then steps of any kind, so that 6 and 7 come at every row."""
+    """A sheet with accepted rows and then steps of any kind, so that 6, 7 and 12 come at every
+    row."""
     draft = accepted(rng, rng.randint(1, 20))
     for _ in range(rng.randint(1, sheet.STEPS_LIMIT - len(draft.steps))):
         any_step(rng, draft)
@@ -260,27 +303,28 @@ def span_by_product(rng) -> Draft:
 
 
 def range_at_zero(rng) -> Draft:
-    """A row shifted so that an end of its range is -1, 0 or 1, and then its reciprocal."""
+    """A row shifted so that an end of its range is -1, 0, 1 or 2, and then its reciprocal or its
+    root."""
     draft = accepted(rng, rng.randint(1, 6))
     chosen = rng.randint(1, draft.last())
     end = rng.choice(draft.rows[chosen - 1].own_range)
-    shift = draft.constant(max(-LIMIT, min(LIMIT, end + rng.randint(-1, 1))))
+    shift = draft.constant(max(-LIMIT, min(LIMIT, end + rng.randint(-2, 1))))
     shifted = draft.step(rng.choice((3, 3, 3, 2)), chosen, shift)
     if rng.random() < 0.3:
         shifted = draft.subtract(shift, chosen)
-    draft.reciprocal(shifted)
+    draft.step(rng.choice((sheet.RECIPROCAL, sheet.ROOT)), shifted)
     return then_anything(rng, draft)
 
 
 def mixed_pairs(rng) -> Draft:
-    """Reciprocals and products of rows in which pairs of different symbols meet."""
+    """Reciprocals, roots and products of rows in which pairs of different symbols meet."""
     inputs = rng.randint(2, sheet.INPUTS_LIMIT)
     draft = Draft(rng.randint(2, inputs), [near_one(rng) for _ in range(inputs)])
     total = draft.multiply(1, 2)
     for _ in range(rng.randint(0, 3)):
         product = draft.multiply(rng.randint(1, draft.last()), rng.randint(1, inputs))
         total = draft.step(rng.choice((2, 2, 3)), total, product)
-    draft.reciprocal(total)
+    draft.step(rng.choice((sheet.RECIPROCAL, sheet.ROOT)), total)
     return then_anything(rng, draft)
 
 
@@ -300,6 +344,76 @@ def large_squares(rng) -> Draft:
         total = draft.subtract(total, draft.constant(max(-LIMIT, min(LIMIT, end + gap))))
     draft.reciprocal(total)
     return then_anything(rng, draft)
+
+
+def large_roots(rng) -> Draft:
+    """Squares of wide inputs about 0 above a low about 1: positive pair coefficients far larger than
+    the centre, and then a root (a candidate over the span, a row over it, or a large own
+    coefficient)."""
+    inputs = rng.randint(1, sheet.INPUTS_LIMIT)
+    draft = Draft(inputs - rng.randint(0, 1), [symmetric(rng) for _ in range(inputs)])
+    total = draft.multiply(1, 1)
+    for _ in range(rng.randint(0, 4)):
+        number = rng.randint(1, inputs)
+        total = draft.add(total, draft.multiply(number, number))
+    if not draft.refused:
+        low = rng.choice((0, 1, 1, 2, rng.randint(1, 1 << rng.randint(1, 26))))
+        shift = low - draft.rows[total - 1].own_range.low
+        total = draft.add(total, draft.constant(max(-LIMIT, min(LIMIT, shift))))
+    draft.root(total)
+    return then_anything(rng, draft)
+
+
+def small_above_large(rng) -> Draft:
+    """A root of a small centre beside a large positive square, and of a linear part or none: its
+    range starts at 1 or just below, and its candidate passes the span or keeps within it."""
+    wide = 2 ** rng.randint(16, 20) + rng.randint(-1, 1)
+    draft = Draft(rng.randint(1, 2), [(-wide, wide), rng.choice(((-1, 1), (0, 0), (-2, 2)))])
+    total = draft.add(draft.multiply(1, 1), draft.constant(rng.randint(1, 3)))
+    draft.root(draft.add(total, 2) if rng.random() < 0.6 else total)
+    return then_anything(rng, draft)
+
+
+def roots_of_squares(rng) -> Draft:
+    """Roots of inputs and constants at squares and one off, and products that give these back."""
+    draft = any_draft(rng, at_squares)
+    for _ in range(rng.randint(1, 6)):
+        operand = rng.randint(1, len(draft.ends))
+        if rng.random() < 0.5:
+            operand = draft.constant(near_square(rng))
+        made = draft.root(operand)
+        if draft.refused:
+            break
+        if rng.random() < 0.5:
+            draft.subtract(draft.multiply(made, made), operand)
+    return then_anything(rng, draft)
+
+
+def roots_of_low_ends(rng) -> Draft:
+    """Roots of inputs whose low end is about 1, beside those of a sum with 0, which has the same
+    form and its range."""
+    draft = any_draft(rng, from_low)
+    zero = draft.constant(0)
+    for number in range(1, len(draft.ends) + 1):
+        draft.root(number if rng.random() < 0.7 else draft.add(number, zero))
+        if draft.refused and rng.random() < 0.9:
+            draft.undo()
+        if draft.refused:
+            break
+    return then_anything(rng, draft)
+
+
+def root_chain(rng) -> Draft:
+    """Roots of roots, and roots after multiplies and reciprocals of what came before."""
+    ends = rng.choice((near_one, at_squares, from_low))
+    draft = Draft(rng.randint(0, 1), [tuple(map(abs, sorted(ends(rng), key=abs)))])
+    between = rng.choice(((), (sheet.MULTIPLY,), (sheet.RECIPROCAL,), (sheet.MULTIPLY, sheet.RECIPROCAL)))
+    for _ in range(rng.randint(1, 8)):
+        draft.root(draft.last())
+        for code in between:
+            second = rng.randint(1, draft.last()) if code == sheet.MULTIPLY else 0
+            draft.step(code, draft.last(), second)
+    return draft
 
 
 def reciprocal_chain(rng) -> Draft:
@@ -372,7 +486,8 @@ def long_products(rng) -> Draft:
 
 EXTREMES = [
     limit_ends, span_by_sums, span_by_product, range_at_zero, large_squares, mixed_pairs,
-    reciprocal_chain, small_divisors, odd_ends, cancellation, long_products,
+    reciprocal_chain, small_divisors, odd_ends, cancellation, long_products, large_roots,
+    small_above_large, roots_of_squares, roots_of_low_ends, root_chain,
 ]
 
 
@@ -466,14 +581,29 @@ def damaged(rng) -> bytes:
 
 
 FAR_VALUES = [
-    -9_999_999_999, -LIMIT - 1, -LIMIT, -1, 0, 1, 2, 3, 4, 5, 6, 7, 24, 25, 30, 31, LIMIT, LIMIT + 1,
-    2**31, 2**32, 2**32 + 1, 9_999_999_999,
+    -9_999_999_999, -LIMIT - 1, -LIMIT, -1, 0, 1, 2, 3, 4, 5, 6, 7, 8, 24, 25, 30, 31, LIMIT,
+    LIMIT + 1, 2**31, 2**32, 2**32 + 1, 9_999_999_999,
 ]
+
+
+def wrong_step(rng) -> bytes:
+    """A sheet in good layout with a step whose code, rows or unused fields are right or just wrong:
+    cause 5."""
+    draft = accepted(rng, rng.randint(1, 6))
+    number = rng.randrange(len(draft.steps))
+    row = len(draft.ends) + number + 1
+    named = (0, 1, row - 1, row, row + 1)
+    first, second = rng.choice(named), rng.choice((0, 0, 0, 0, 0, *named))
+    code, value = rng.choice((0, 1, 2, 3, 4, 5, 6, 6, 6, 7, 8)), rng.choice((0, 0, 0, 0, 1))
+    draft.steps[number] = sheet.Step(code, first, second, value)
+    return sheet.text(draft.schedule())
 
 
 def wrong_value(rng) -> bytes:
     """A sheet in good layout with one or two numbers replaced: causes 3, 4 and 5. At times one of
     their lines also breaks the layout: 2 comes first there."""
+    if rng.random() < 0.4:
+        return wrong_step(rng)
     data = sheet.text(accepted(rng, rng.randint(1, 6)).schedule())
     lines = data.split(b"\n")
     for _ in range(rng.randint(1, 2)):

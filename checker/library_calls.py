@@ -201,9 +201,9 @@ METHODS = {
 GOOD = sheet.schedule(
     2,
     [(-512, 512), (4096, 8191)],
-    [(1, 0, 0, -7), (4, 1, 2, 0), (5, 2, 0, 0), (2, 4, 5, 0), (3, 6, 4, 0)],
+    [(1, 0, 0, -7), (4, 1, 2, 0), (5, 2, 0, 0), (2, 4, 5, 0), (3, 6, 4, 0), (6, 2, 0, 0)],
 )
-GOOD_ROWS = 7
+GOOD_ROWS = 8
 LARGEST = sheet.schedule(6, [(-(2**28), -(2**28))] * 6, [(1, 0, 0, -(2**28))] * 24)
 
 
@@ -226,7 +226,7 @@ def step_place(step_number, field):
 def beyond_counts(value):
     """Every number of GOOD beyond its counts replaced."""
     ends = range(end_place(3, 0), end_place(7, 0))
-    steps = range(step_place(6, 0), step_place(25, 0))
+    steps = range(step_place(7, 0), step_place(25, 0))
     return {place: value for place in [*ends, *steps]}
 
 
@@ -237,25 +237,29 @@ def hostile_schedules():
     """Counts of any value, ends and steps of any value, and garbage beyond the counts."""
     yield flat(GOOD)
     yield flat(sheet.ZEROS)
-    for value in (LEAST, -1, 1, 5, GREATEST):
+    for value in (LEAST, -1, 1, 5, 6, GREATEST):
         yield changed(beyond_counts(value))
         yield [value] * 111
     for place in range(3):
         for value in HOSTILE + [3, 6, 7, 24, 25]:
             yield changed({place: value} | beyond_counts(1))
-    for counts in ((6, 6, 24), (7, 7, 24), (6, 6, 25), (2**32 + 2, 2, 5), (2, 2**32 + 2, 5)):
+    for counts in ((6, 6, 24), (7, 7, 24), (6, 6, 25), (2**32 + 2, 2, 6), (2, 2**32 + 2, 6)):
         yield changed(dict(enumerate(counts)) | beyond_counts(0))
     for place in (end_place(1, 0), end_place(1, 1), end_place(2, 0), end_place(2, 1)):
         for value in HOSTILE + [sheet.END_LIMIT + 1, -sheet.END_LIMIT - 1]:
             yield changed({place: value})
-    for step in (1, 2, 3, 5):
+    for step in (1, 2, 3, 5, 6):
         for field in range(4):
-            for value in HOSTILE + [3, 5, 6]:
+            for value in HOSTILE + [3, 5, 6, 7, 8]:
                 yield changed({step_place(step, field): value})
     yield changed({1: 3, end_place(1, 0): GREATEST})
     yield changed({end_place(2, 0): GREATEST, step_place(1, 0): 0})
     yield changed({end_place(1, 0): GREATEST, end_place(2, 0): GREATEST})
-    yield changed({step_place(2, 3): 1, step_place(5, 0): 6})
+    yield changed({step_place(2, 3): 1, step_place(5, 0): 7})
+    for fields in ((6, 8, 0, 0), (6, 9, 0, 0), (6, 7, 1, 0), (6, 7, 0, -1), (7, 2, 0, 0)):
+        yield changed({step_place(6, field): value for field, value in enumerate(fields)})
+    for code in (2**32 + 6, 6 - 2**32, 2**63 - 2**32 + 6, 262):
+        yield changed({step_place(6, 0): code})
 
 
 def lent(table_length, fill, ranges_length, ranges_fill):
@@ -311,9 +315,9 @@ def calls_on_lengths():
 
 
 def calls_on_refused_rows():
-    """6 and 7 at each row: the rows before are written, that row and later ones are left."""
+    """6, 7 and 12 at each row: the rows before are written, that row and later ones are left."""
     for row in range(3, GOOD_ROWS + 1):
-        for refused_step in ((5, 1, 0, 0), (4, 2, row - 1, 0)):
+        for refused_step in ((5, 1, 0, 0), (4, 2, row - 1, 0), (6, 1, 0, 0)):
             steps = [(1, 0, 0, 2**28)] * (row - 3) + [refused_step]
             steps += [(2, 1, 1, 0)] * (GOOD_ROWS - row)
             yield SCHEDULE, *flat(sheet.schedule(1, [(-5, 6), (-(2**28), 2**28)], steps))
@@ -328,16 +332,72 @@ SMALL_ENDS = [
 ]
 
 
+def steps_of_one_row(code):
+    """The reciprocal or the root of an input, and that of its sum with 0."""
+    yield [(code, 1, 0, 0), (4, 1, 2, 0)]
+    yield [(1, 0, 0, 0), (2, 1, 2, 0), (code, 3, 0, 0)]
+
+
 def calls_on_small_ends():
-    """Reciprocals of inputs, which go by the ends, and of the same forms as sums with 0, which go by
-    the form; every row's range asked for."""
+    """Reciprocals and roots of inputs, which go by the ends, and of the same forms as sums with 0,
+    which go by the form; every row's range asked for."""
     for ends, squares in itertools.product(SMALL_ENDS, (0, 1)):
-        for steps in ([(5, 1, 0, 0), (4, 1, 2, 0)], [(1, 0, 0, 0), (2, 1, 2, 0), (5, 3, 0, 0)]):
+        for steps in itertools.chain(*map(steps_of_one_row, (sheet.RECIPROCAL, sheet.ROOT))):
             count = 1 + len(steps)
             yield SCHEDULE, *flat(sheet.schedule(squares, [ends], steps))
             yield from evaluated(rows.NUMBERS * count, 76, ENDS * count, 77)
             for row in range(1, count + 1):
                 yield RANGE, count, row
+
+
+# Squares and their neighbours, and 1024 m² ± m, 4096 times which is one less than a square.
+ROOT_VALUES = [
+    1, 2, 3, 4, 5, 8, 9, 15, 16, 17, 1023, 1024, 1025, 4094, 4095, 4096, 4097, 4098, 2**20 - 1, 2**20,
+    2**20 + 1, 16_383**2 - 1, 16_383**2, 16_383**2 + 1, 2**28 - 512, 2**28 - 1, 2**28, 0, -1, -(2**28),
+]
+
+
+def calls_on_roots():
+    """Roots of constants and of points, of roots, and of wide inputs."""
+    for value in ROOT_VALUES:
+        steps = [(1, 0, 0, value), (6, 2, 0, 0), (6, 3, 0, 0), (4, 3, 3, 0), (6, 1, 0, 0)]
+        yield SCHEDULE, *flat(sheet.schedule(1, [(value, value)], steps))
+        yield from evaluated(rows.NUMBERS * 6, 21, ENDS * 6, 22)
+    for low, high in itertools.product((1, 2, 4095, 4096, 2**28 - 1), (4097, 2**20, 2**28 - 1, 2**28)):
+        if low <= high:
+            steps = [(6, 1, 0, 0), (6, 2, 0, 0), (4, 2, 2, 0), (3, 4, 1, 0)]
+            for squares in (0, 1):
+                yield SCHEDULE, *flat(sheet.schedule(squares, [(low, high)], steps))
+                yield from evaluated(rows.NUMBERS * 5, 23, ENDS * 5, 24)
+
+
+def calls_on_roots_of_pairs():
+    """Roots of a sum less a product, whose pair is negative beside large linear parts, and of the
+    sum with it."""
+    for second, code, squares in itertools.product((1, 2), (sheet.SUBTRACT, sheet.ADD), (0, 1, 2)):
+        sums = [(2, 1, 2, 0), *((2, row, row, 0) for row in range(4, 9))]
+        steps = [(4, 1, second, 0), *sums, (code, 9, 3, 0), (6, 10, 0, 0)]
+        yield SCHEDULE, *flat(sheet.schedule(squares, [(4096, 8192), (4096, 8191)], steps))
+        yield from evaluated(rows.NUMBERS * 11, 29, ENDS * 11, 30)
+
+
+def above_a_square(wide, linear, constant):
+    """The schedule of constant + wide²/4096 × a² + linear × b, its root, and the root once more."""
+    steps = [(4, 1, 1, 0), (1, 0, 0, constant), (2, 3, 4, 0), (2, 5, 2, 0), (6, 6, 0, 0), (6, 6, 0, 0)]
+    return sheet.schedule(1, [(-wide, wide), (-linear, linear)], steps)
+
+
+def calls_on_roots_at_the_span():
+    """The least centres beside large squares, where the candidate or the root passes the span, and
+    ranges that start at 0, 1 and 2, so that 12 comes first; each with tables one number short."""
+    widths = (64, 5760, 5824, 2**17, 2**19 - 64, 2**19, 2**20)
+    for wide, linear, constant in itertools.product(widths, (0, 1), (0, 1, 2, 3, 4096)):
+        yield SCHEDULE, *flat(above_a_square(wide, linear, constant))
+        yield from evaluated(rows.NUMBERS * 8, 25, ENDS * 8, 26)
+    for lengths in ((rows.NUMBERS * 8 - 1, ENDS * 8), (rows.NUMBERS * 8, ENDS * 8 - 1)):
+        for linear in (0, 1):
+            yield SCHEDULE, *flat(above_a_square(2**19, linear, 1))
+            yield from evaluated(lengths[0], 27, lengths[1], 28)
 
 
 def asking(counts, asked):
@@ -479,7 +539,7 @@ def calls_on_an_evaluated_table():
     """Every row of an accepted evaluation asked for; then again with its low end put to its high
     end, and above it."""
     yield SCHEDULE, *flat(GOOD)
-    yield from evaluated(400, 5, 20, 3)
+    yield from evaluated(450, 5, 20, 3)
     yield from asking([GOOD_ROWS], range(GOOD_ROWS + 2))
     for first, second in itertools.product(range(1, GOOD_ROWS + 1), repeat=2):
         yield SAME, GOOD_ROWS, first, second
@@ -500,7 +560,7 @@ SHORT = sheet.text(sheet.schedule(1, [(-300, 21)], [(3, 1, 1, 0)]))
 SHORT_NUMBERS = 2 * rows.NUMBERS
 SHORT_ENDS = 2 * ENDS
 
-# Each is refused, by 1 to 7 in turn: the last two after one row or more.
+# Each is refused, by 1 to 7 and 12 in turn: the last three after one row or more.
 REFUSED = [
     SHORT + b"\n" * (1025 - len(SHORT)),
     SHORT[:-1],
@@ -509,6 +569,7 @@ REFUSED = [
     SHORT.replace(b"3 1 1 0\n", b"3 1 2 0\n"),
     sheet.text(sheet.schedule(0, [(5, 2**28)], [(4, 1, 1, 0)])),
     sheet.text(sheet.schedule(0, [(-5, 6)], [(1, 0, 0, -9), (5, 1, 0, 0), (2, 1, 1, 0)])),
+    sheet.text(sheet.schedule(0, [(0, 7)], [(1, 0, 0, 9), (6, 2, 0, 0), (6, 1, 0, 0)])),
 ]
 
 
@@ -517,7 +578,7 @@ def listings_into_lent_bytes():
     too small, for sheets and tables that would be refused otherwise."""
     for room in (0, 1, 4095, 4096, 4097, LIST_ROOM):
         yield from listed(SHORT, (SHORT_NUMBERS + 1, 7, SHORT_ENDS + 1, 8), room)
-    for data in (b"", REFUSED[0], REFUSED[1], REFUSED[6]):
+    for data in (b"", REFUSED[0], REFUSED[1], REFUSED[6], REFUSED[7]):
         yield from listed(data, (SHORT_NUMBERS, -7, SHORT_ENDS, -8), 4095)
     yield from listed(SHORT, (SHORT_NUMBERS - 1, LEAST, SHORT_ENDS, 0), 1)
     yield from listed(SHORT, (SHORT_NUMBERS, LEAST, SHORT_ENDS - 1, 0), 1)
@@ -552,18 +613,20 @@ def listings_of_any_bytes():
 
 
 def listings_of_good_sheets():
-    """Rows of every kind, ends of odd sum with their reciprocals, rows that are the same as several
-    before, the widest numbers, 30 rows."""
+    """Rows of every kind, ends of odd sum with their reciprocals and roots, rows that are the same as
+    several before, the widest numbers, 30 rows."""
     widest = [(-(2**28), 2**28), (-(2**28), -(2**28))]
     sums = [(2, 1, 1, 0), (2, 3, 3, 0), (3, 2, 3, 0), (2, 2, 2, 0), (2, 6, 6, 0)]
     again = [(1, 0, 0, -7), (3, 1, 1, 0), (1, 0, 0, -7), (1, 0, 0, -7), (3, 2, 2, 0), (2, 3, 4, 0)]
     odd = [(5, 1, 0, 0), (5, 2, 0, 0), (5, 3, 0, 0), (4, 1, 4, 0), (2, 2, 2, 0)]
+    roots = [(6, 1, 0, 0), (6, 2, 0, 0), (6, 3, 0, 0), (4, 5, 5, 0), (6, 6, 0, 0)]
     for data, fill in [
         (listing.EXAMPLE_SHEET, LEAST),
         (sheet.text(GOOD), GREATEST),
         (sheet.text(sheet.schedule(0, widest, sums)), 7),
         (sheet.text(sheet.schedule(2, [(-5, 6), (-6, 5)], again)), 7),
         (sheet.text(sheet.schedule(3, [(1, 2), (-2, -1), (3, 8)], odd)), -4),
+        (sheet.text(sheet.schedule(2, [(1, 2), (4096, 8191), (3, 8)], roots)), 6),
     ]:
         yield from listed(data, (rows.NUMBERS * 8, fill, ENDS * 8, -1 - fill))
     yield from listed(sheet.text(LARGEST), (TABLE_ROOM, -1, RANGES_ROOM, -2))
@@ -599,6 +662,7 @@ def formulas_read():
 def calls() -> list[tuple]:
     groups = (
         calls_on_schedules, calls_on_lengths, calls_on_refused_rows, calls_on_small_ends,
+        calls_on_roots, calls_on_roots_of_pairs, calls_on_roots_at_the_span,
         calls_on_counts_and_rows, calls_on_lent_ranges, calls_on_lent_ends, calls_on_spans,
         calls_on_comparison, calls_on_an_evaluated_table, sampled_evaluations, sampled_ranges,
         listings_into_lent_bytes, listings_into_lent_tables, listings_of_refused_sheets,

@@ -1,13 +1,14 @@
-"""What the program `row_examples` must print: P1 to P13 (manual, section 5.11), row by row.
+"""What the program `row_examples` must print: P1 to P13 (manual, section 5.13), and R1 to R6 of roots,
+row by row.
 
     python3 checker/row_cases.py crates/row_examples
 
 writes `stdout` into the folder given.
 
-One line for each example, its fields separated by one space: the label (`P1`); then `refused 6` or
-`refused 7`, or the 52 numbers of the resulting row (centre, 30 linear coefficients, 21 pair
-coefficients) followed by low and high of its range, which are an input's ends. P12 and P13, which
-are in two parts, have a line for each part, with `a` and `b` behind the label.
+One line for each example, its fields separated by one space: the label (`P1`); then `refused 6`,
+`refused 7` or `refused 12`, or the 52 numbers of the resulting row (centre, 30 linear coefficients,
+21 pair coefficients) followed by low and high of its range, which are an input's ends. P12 and P13,
+which are in two parts, have a line for each part, with `a` and `b` behind the label.
 
 Which row owns which symbol (row r owns symbol r):
 
@@ -21,6 +22,9 @@ Which row owns which symbol (row r owns symbol r):
 - P12a (ends 1, 2), P12b (ends 1, 3): the input is row 1, the reciprocal is row 2 and owns symbol 2;
   squares 0.
 - P13a (times 16,384), P13b (times 16,385): as P3.
+- R1 (root of 4096), R2 (root of 2): as P5, with a root for the reciprocal.
+- R3 (ends 4096, 8192, squares 1), R4 (the same, squares 0), R5 (ends 0, 5, squares 0), R6 (ends 1, 3,
+  squares 0): as P10, with a root for the reciprocal.
 """
 
 import sys
@@ -59,6 +63,14 @@ def reciprocal_of_input(low, high, squares):
     return lambda: with_form_range(rows.reciprocal(*input_alone(low, high)(), squares, 2))
 
 
+def root_of_constant(value):
+    return lambda: with_form_range(rows.root(*with_form_range(rows.constant_row(value)), 0, 3))
+
+
+def root_of_input(low, high, squares):
+    return lambda: with_form_range(rows.root(*input_alone(low, high)(), squares, 2))
+
+
 EXAMPLES = [
     ("P1", input_alone(0, 1)),
     ("P2", input_alone(-1, 0)),
@@ -75,6 +87,12 @@ EXAMPLES = [
     ("P12b", reciprocal_of_input(1, 3, 0)),
     ("P13a", product_of_constants(268_435_456, 16_384)),
     ("P13b", product_of_constants(268_435_456, 16_385)),
+    ("R1", root_of_constant(4096)),
+    ("R2", root_of_constant(2)),
+    ("R3", root_of_input(4096, 8192, 1)),
+    ("R4", root_of_input(4096, 8192, 0)),
+    ("R5", root_of_input(0, 5, 0)),
+    ("R6", root_of_input(1, 3, 0)),
 ]
 
 

@@ -5,6 +5,7 @@ numbers: place 0 is the centre, place i the linear coefficient of symbol i, and 
 the pair coefficients in their order.
 """
 
+import math
 from typing import NamedTuple
 
 UNIT = 4_096
@@ -34,7 +35,7 @@ class Range(NamedTuple):
 
 
 class RowRefusal(Exception):
-    """The number of the cause, 6 or 7, for which a row does not come about."""
+    """The number of the cause, 6, 7 or 12, for which a row does not come about."""
 
     def __init__(self, number: int):
         super().__init__(number)
@@ -187,4 +188,39 @@ def reciprocal(x, own_range: Range, squares: int, own: int):
     row = span_tested(candidate(x, squares))
     assert row[own] == 0, "an earlier row has no coefficient of a later row's symbol"
     row[own] = up(candidate_error(x, row, squares), a)
+    return span_tested(row)
+
+
+def unit_root(value: int) -> int:
+    """"for an exact value of X units, the whole-number root of 4096 × X, rounded down", of a whole
+    X."""
+    return math.isqrt(UNIT * value)
+
+
+def root_candidate(x):
+    """"With centre c the candidate's centre z is that root of 4096 × c; each other number is 2048 ×
+    the operand's, divided by z."."""
+    z = unit_root(x[0])
+    return [z, *(UNIT // 2 * number // z for number in x[1:])]
+
+
+def square_error(x, candidate_row, squares: int) -> int:
+    """"B bounds 4096 × operand less candidate times candidate, totals and dropped part as for a
+    reciprocal."."""
+    totals = product_totals(candidate_row, candidate_row, squares)
+    missed = [UNIT * number - total for number, total in zip(x, totals)]
+    return absolute_sum(missed) + dropped_part(candidate_row, candidate_row, squares)
+
+
+def root(x, own_range: Range, squares: int, own: int):
+    """"Own coefficient is B divided by the root of 4096 × low, up, plus 1."; 12 is "low below 1, or
+    the candidate's own range starts below 0"; "A candidate over the span limit gives 6 before its
+    range is looked at.". Test and low are those of the operand's own range."""
+    if own_range.low < 1:
+        raise RowRefusal(12)
+    row = span_tested(root_candidate(x))
+    if low(row) < 0:
+        raise RowRefusal(12)
+    assert row[own] == 0, "an earlier row has no coefficient of a later row's symbol"
+    row[own] = up(square_error(x, row, squares), unit_root(own_range.low)) + 1
     return span_tested(row)

@@ -16,7 +16,7 @@ COUNT_NAMES = b"inputs squares steps"
 END_NAMES = b"low high"
 STEP_NAMES = b"step first second value"
 
-CONSTANT, ADD, SUBTRACT, MULTIPLY, RECIPROCAL = 1, 2, 3, 4, 5
+CONSTANT, ADD, SUBTRACT, MULTIPLY, RECIPROCAL, ROOT = 1, 2, 3, 4, 5, 6
 
 NUMBER = re.compile(rb"0|-?[1-9][0-9]{0,9}")
 
@@ -116,14 +116,15 @@ def ends_in_order(ends: Ends) -> bool:
 
 def step_in_order(step: Step, row: int) -> bool:
     """"A step's first and second name earlier rows"; "A field that its code does not use is 0:
-    first and second for 1, value for 2 to 5, second for 5."."""
+    first and second for 1, value for 2 to 5, second for 5."; "Code 6 takes the root of its first
+    row; second and value are 0."."""
     first_earlier = 1 <= step.first < row
     second_earlier = 1 <= step.second < row
     if step.code == CONSTANT:
         return step.first == 0 and step.second == 0 and within_limits(step.value)
     if step.code in (ADD, SUBTRACT, MULTIPLY):
         return first_earlier and second_earlier and step.value == 0
-    if step.code == RECIPROCAL:
+    if step.code in (RECIPROCAL, ROOT):
         return first_earlier and step.second == 0 and step.value == 0
     return False
 

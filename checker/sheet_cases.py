@@ -28,7 +28,8 @@ EVERY_CODE = sheet.schedule(
     [(1, 0, 0, 268_435_456)]
     + [(code, 1 + code, 3 + code, 0) for code in (2, 3, 4)]
     + [(5, 10, 0, 0), (5, 1, 0, 0), (2, 12, 12, 0), (3, 13, 1, 0), (4, 14, 13, 0)]
-    + [(4, row - 1, row - 2, 0) for row in range(16, 31)],
+    + [(6, 15, 0, 0), (6, 1, 0, 0)]
+    + [(4, row - 1, row - 2, 0) for row in range(18, 31)],
 )
 
 # One line of each kind in the sheet of PLAIN, as (kind, text line).
@@ -193,9 +194,10 @@ def step_faults():
     """
     for line in (7, 8, 9):
         row = line - 4
-        for code in (-1, 0, 6, 7, 10, 256, 257, 9_999_999_999):
+        for code in (-1, 0, 7, 8, 10, 256, 257, 262, 9_999_999_999):
             yield with_line(PLAIN, line, b"%d 1 1 0" % code)
             yield with_line(PLAIN, line, b"%d 0 0 0" % code)
+            yield with_line(PLAIN, line, b"%d 1 0 0" % code)
         for fields in ((1, 0, 1), (0, 1, 1), (1, 1, 1), (-1, 0, 1), (0, -1, 1)):
             yield with_line(PLAIN, line, b"1 %d %d %d" % fields)
         for value in (268_435_457, -268_435_457, 9_999_999_999, 268_435_456, -268_435_456):
@@ -207,10 +209,11 @@ def step_faults():
                 yield with_line(PLAIN, line, b"%d 1 %d 0" % (code, other))
             yield with_line(PLAIN, line, b"%d 1 1 1" % code)
             yield with_line(PLAIN, line, b"%d 1 1 -1" % code)
-        for other in named:
-            yield with_line(PLAIN, line, b"5 %d 0 0" % other)
-        for fields in ((1, 1, 0), (1, 0, 1), (1, -1, 0), (1, 0, -1), (0, 1, 0)):
-            yield with_line(PLAIN, line, b"5 %d %d %d" % fields)
+        for code in (5, 6):
+            for other in named:
+                yield with_line(PLAIN, line, b"%d %d 0 0" % (code, other))
+            for fields in ((1, 1, 0), (1, 0, 1), (1, 1, 1), (1, -1, 0), (1, 0, -1), (0, 1, 0)):
+                yield with_line(PLAIN, line, b"%d %d %d %d" % (code, *fields))
 
 
 def competing_causes():
@@ -221,8 +224,9 @@ def competing_causes():
     faults = [(line, lines_of(PLAIN)[line - 1] + b" ") for line in range(1, 10)]
     faults += [(2, b"2 3 3"), (2, b"2 3 03"), (2, b"0 0 1 1")]
     faults += [(4, b"1 0"), (5, b"0 268435457"), (4, b"1 00"), (5, b"0 0268435457")]
-    faults += [(7, b"1 0 0 268435457"), (8, b"4 1 4 0"), (9, b"6 0 0 0"), (9, b"5 0 0 0")]
-    faults += [(7, b"6 0 0 -0"), (8, b"4 1 4"), (9, b"5 1 1 0 ")]
+    faults += [(7, b"1 0 0 268435457"), (8, b"4 1 4 0"), (9, b"7 0 0 0"), (9, b"5 0 0 0")]
+    faults += [(7, b"7 0 0 -0"), (8, b"4 1 4"), (9, b"5 1 1 0 ")]
+    faults += [(8, b"6 4 0 0"), (9, b"6 1 1 0"), (7, b"6 1 0 01")]
     for index, first in enumerate(faults):
         for second in faults[index:]:
             lines = lines_of(PLAIN)

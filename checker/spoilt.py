@@ -6,7 +6,7 @@ where it does. Those of OTHER_NUMBERS and OTHER_RANGES give other numbers than t
 those of OTHER_SHEETS read otherwise: the generated sheets must tell them all from the right ones,
 and the cases of sheet_cases.py the last. Those of OTHER_CALLS are wrong in `evaluation`, those of
 OTHER_LISTINGS in `listing` and those of OTHER_FORMULAS in `formula`, and the calls of
-library_calls.py must tell them, and every fault of a range.
+library_calls.py must tell them, every fault of a range, and those of OF_ROOTS.
 """
 
 import contextlib
@@ -80,9 +80,45 @@ def reciprocal_by_centre(x, own_range, squares, own):
     return REAL["reciprocal"](x, rows.Range(x[0], x[0]), squares, own)
 
 
+def root_by_centre(x, own_range, squares, own):
+    """The low is the centre."""
+    if own_range.low < 1:
+        raise rows.RowRefusal(12)
+    return REAL["root"](x, rows.Range(x[0], x[0]), squares, own)
+
+
 def distance_of_far_end(own_range):
     REAL["distance_from_zero"](own_range)
     return max(map(abs, own_range))
+
+
+def root_error_without_dropped_part(x, candidate, squares):
+    error = REAL["square_error"](x, candidate, squares)
+    return error - rows.dropped_part(candidate, candidate, squares)
+
+
+def root_with_own(own_coefficient):
+    """A root with its own coefficient from B and from the operand's own range."""
+
+    def root(x, own_range, squares, own):
+        row = list(REAL["root"](x, own_range, squares, own))
+        row[own] = 0
+        row[own] = own_coefficient(rows.square_error(x, row, squares), own_range)
+        return rows.span_tested(row)
+
+    return {"root": root}
+
+
+def root_on(change):
+    """A root with another own range of its operand; where its centre is below 1 it is refused, since
+    no candidate is there."""
+
+    def root(x, own_range, squares, own):
+        if x[0] < 1:
+            raise rows.RowRefusal(12)
+        return REAL["root"](x, change(x, own_range), squares, own)
+
+    return {"root": root}
 
 
 def low_with_pairs_from_0(row):
@@ -110,9 +146,11 @@ UNSOUND = {
     "an input's own coefficient one smaller": one_less("input_row"),
     "a product's own coefficient one smaller": one_less("multiply"),
     "a reciprocal's own coefficient one smaller": one_less("reciprocal"),
+    "a root's own coefficient without the 1 more": one_less("root"),
     "one symbol for the rounding of all steps": {
         "multiply": on_shared_symbol("multiply"),
         "reciprocal": on_shared_symbol("reciprocal"),
+        "root": on_shared_symbol("root"),
     },
     "half the width as an input's own coefficient": {"input_row": half_width_input},
     "a product without its remainders": {"multiply": multiply_without_remainders},
@@ -120,6 +158,16 @@ UNSOUND = {
     "no dropped part": {"dropped_part": lambda x, y, squares: 0},
     "B without the dropped part": {"candidate_error": error_without_dropped_part},
     "B divided by the far end": {"distance_from_zero": distance_of_far_end},
+    "B of a root without the dropped part": {"square_error": root_error_without_dropped_part},
+    "B of a root divided by the root of high": root_with_own(
+        lambda error, own_range: rows.up(error, rows.unit_root(own_range.high)) + 1
+    ),
+    "a root's own coefficient rounded down": root_with_own(
+        lambda error, own_range: error // rows.unit_root(own_range.low) + 1
+    ),
+    "a root where low is below 1": root_on(
+        lambda x, own_range: own_range._replace(low=max(own_range.low, 1))
+    ),
     "pairs of different symbols counted from 0": {"low": low_with_pairs_from_0},
     "low without negative squares": {"low": low_without_squares},
     "high without positive squares": {"high": high_without_squares},
@@ -294,6 +342,92 @@ def reciprocal_by_form(x, own_range, squares, own):
     return REAL["reciprocal"](x, rows.form_range(x), squares, own)
 
 
+def root_rounded_up(value):
+    root = REAL["unit_root"](value)
+    return root if root * root == rows.UNIT * value else root + 1
+
+
+def root_candidate_by(centre=lambda z: z, half=rows.UNIT // 2, divide=floor):
+    """A candidate of a root with another centre, another factor or another division."""
+
+    def root_candidate(x):
+        z = centre(rows.unit_root(x[0]))
+        return [z, *(divide(half * number, z) for number in x[1:])]
+
+    return {"root_candidate": root_candidate}
+
+
+def root_candidate_divided_by_the_next(x):
+    """The slopes are divided by the root rounded up."""
+    z = REAL["unit_root"](x[0])
+    return [z, *(rows.UNIT // 2 * number // (z + 1) for number in x[1:])]
+
+
+def root_candidate_without_pairs(x):
+    return REAL["root_candidate"](x)[: 1 + rows.SYMBOLS] + [0] * len(rows.PAIRS)
+
+
+def root_error_from(change):
+    """B with the totals of candidate times candidate, or what they are taken from, changed."""
+
+    def square_error(x, candidate, squares):
+        totals = rows.product_totals(candidate, candidate, squares)
+        missed = change([rows.UNIT * number for number in x], totals)
+        return rows.absolute_sum(missed) + rows.dropped_part(candidate, candidate, squares)
+
+    return {"square_error": square_error}
+
+
+def missed_without_centre(numbers, totals):
+    return [p - q for p, q in zip(numbers[1:], totals[1:])]
+
+
+def missed_from_divided_totals(numbers, totals):
+    return [p - q // rows.UNIT * rows.UNIT for p, q in zip(numbers, totals)]
+
+
+def missed_as_absolutes(numbers, totals):
+    return [abs(p) - abs(q) for p, q in zip(numbers, totals)]
+
+
+def root_with_6_first(x, own_range, squares, own):
+    if x[0] > 0:
+        rows.span_tested(rows.root_candidate(x))
+    return REAL["root"](x, own_range, squares, own)
+
+
+def root_refused_at_1(x, own_range, squares, own):
+    if own_range.low == 1:
+        raise rows.RowRefusal(12)
+    return REAL["root"](x, own_range, squares, own)
+
+
+def root_tested_by_form(x, own_range, squares, own):
+    """12 is tested by the form's range, and the low taken from the operand's own."""
+    if rows.form_range(x).low < 1:
+        raise rows.RowRefusal(12)
+    return REAL["root"](x, own_range, squares, own)
+
+
+def root_by_low_of_form(x, own_range, squares, own):
+    """12 is tested by the operand's own range, and the low is that of the form, or 1."""
+    if own_range.low < 1:
+        raise rows.RowRefusal(12)
+    formed = rows.form_range(x)
+    return REAL["root"](x, formed._replace(low=max(formed.low, 1)), squares, own)
+
+
+def root_by_form(x, own_range, squares, own):
+    """Test and low are those of the form."""
+    return REAL["root"](x, rows.form_range(x), squares, own)
+
+
+def root_refused_by_7(x, own_range, squares, own):
+    if own_range.low < 1:
+        raise rows.RowRefusal(7)
+    return REAL["root"](x, own_range, squares, own)
+
+
 def input_centre_toward_zero(low_end, high_end, own):
     row = REAL["input_row"](low_end, high_end, own)
     row[0] = toward_zero(low_end + high_end, 2)
@@ -301,11 +435,14 @@ def input_centre_toward_zero(low_end, high_end, own):
     return row
 
 
-# Reciprocals by the form of their operand, where the ends of an input decide.
+# Reciprocals and roots by the form of their operand, where the ends of an input decide.
 BY_FORM = {
     "the test of 7 by the form": {"reciprocal": reciprocal_tested_by_form},
     "a reciprocal's distance that of the form": {"reciprocal": reciprocal_by_distance_of_form},
     "a reciprocal by the form alone": {"reciprocal": reciprocal_by_form},
+    "the test of 12 by the form": {"root": root_tested_by_form},
+    "a root's low that of the form": {"root": root_by_low_of_form},
+    "a root by the form alone": {"root": root_by_form},
 }
 
 OTHER_NUMBERS = BY_FORM | {
@@ -333,12 +470,43 @@ OTHER_NUMBERS = BY_FORM | {
     "6 before 7": {"reciprocal": reciprocal_with_6_first},
     "a reciprocal where low is 0": {"reciprocal": reciprocal_with_0_at_low},
     "a reciprocal where high is 0": {"reciprocal": reciprocal_with_0_at_high},
+    "whole-number roots rounded up": {"unit_root": root_rounded_up},
+    "a root's centre one more": root_candidate_by(centre=lambda z: z + 1),
+    "a root's centre one less": root_candidate_by(centre=lambda z: z - 1),
+    "a root's slopes toward zero": root_candidate_by(divide=toward_zero),
+    "a root's slopes rounded up": root_candidate_by(divide=rows.up),
+    "a root's slopes by 4096": root_candidate_by(half=rows.UNIT),
+    "a root's slopes divided by the root rounded up": {
+        "root_candidate": root_candidate_divided_by_the_next
+    },
+    "a root without pairs": {"root_candidate": root_candidate_without_pairs},
+    "B of a root without the centre": root_error_from(missed_without_centre),
+    "B of a root from divided totals": root_error_from(missed_from_divided_totals),
+    "B of a root from absolutes": root_error_from(missed_as_absolutes),
+    "B of a root divided by the root of the centre": {"root": root_by_centre},
+    "a root's own coefficient 0 where B is 0": root_with_own(
+        lambda error, own_range: error and rows.up(error, rows.unit_root(own_range.low)) + 1
+    ),
+    "a root's 1 more added before the division": root_with_own(
+        lambda error, own_range: rows.up(error + 1, rows.unit_root(own_range.low))
+    ),
+    "6 before 12": {"root": root_with_6_first},
+    "a root where low is 0": root_on(
+        lambda x, own_range: own_range._replace(low=own_range.low or 1)
+    ),
+    "a root refused where low is 1": {"root": root_refused_at_1},
+    "a root refused by 7": {"root": root_refused_by_7},
     "the span limit one more": {"SPAN_LIMIT": rows.SPAN_LIMIT + 1},
     "the span limit one less": {"SPAN_LIMIT": rows.SPAN_LIMIT - 1},
     "an input's centre toward zero": {"input_row": input_centre_toward_zero},
     "one square more in use": {"PAIRS_IN_USE": rows.PAIRS_IN_USE[1:] + rows.PAIRS_IN_USE[-1:]},
     "one square less in use": {"PAIRS_IN_USE": rows.PAIRS_IN_USE[:1] + rows.PAIRS_IN_USE[:-1]},
 }
+
+
+# Every fault of a root.
+ROOT_PARTS = {"root", "root_candidate", "square_error", "unit_root"}
+OF_ROOTS = {name: parts for name, parts in (UNSOUND | OTHER_NUMBERS).items() if ROOT_PARTS & parts.keys()}
 
 
 class WithoutEnd(sheet.TextLines):
@@ -407,13 +575,13 @@ def step_naming_itself(step, row):
 
 
 def step_naming_row_0(step, row):
-    if step.code in (sheet.ADD, sheet.SUBTRACT, sheet.MULTIPLY, sheet.RECIPROCAL):
+    if step.code != sheet.CONSTANT:
         step = step._replace(first=step.first or 1)
     return REAL_SHEET["step_in_order"](step, row)
 
 
 def step_with_any_second(step, row):
-    if step.code in (sheet.CONSTANT, sheet.RECIPROCAL):
+    if step.code in (sheet.CONSTANT, sheet.RECIPROCAL, sheet.ROOT):
         step = step._replace(second=0)
     return REAL_SHEET["step_in_order"](step, row)
 
@@ -421,6 +589,37 @@ def step_with_any_second(step, row):
 def step_with_any_value(step, row):
     if step.code != sheet.CONSTANT:
         step = step._replace(value=0)
+    return REAL_SHEET["step_in_order"](step, row)
+
+
+def root_step_with(**changes):
+    """A root with other fields is looked at."""
+
+    def step_in_order(step, row):
+        step = step._replace(**changes) if step.code == sheet.ROOT else step
+        return REAL_SHEET["step_in_order"](step, row)
+
+    return {"step_in_order": step_in_order}
+
+
+def root_of_itself(step, row):
+    return REAL_SHEET["step_in_order"](step, row + (step.code == sheet.ROOT))
+
+
+def root_of_row_0(step, row):
+    if step.code == sheet.ROOT:
+        step = step._replace(first=step.first or 1)
+    return REAL_SHEET["step_in_order"](step, row)
+
+
+def code_7_as_a_root(step, row):
+    step = step._replace(code=sheet.ROOT) if step.code == 7 else step
+    return REAL_SHEET["step_in_order"](step, row)
+
+
+def root_with_two_rows(step, row):
+    """A root is looked at as a product is."""
+    step = step._replace(code=sheet.MULTIPLY) if step.code == sheet.ROOT else step
     return REAL_SHEET["step_in_order"](step, row)
 
 
@@ -461,6 +660,13 @@ OTHER_SHEETS = {
     "second not looked at where unused": {"step_in_order": step_with_any_second},
     "value not looked at where unused": {"step_in_order": step_with_any_value},
     "first not looked at where unused": {"step_in_order": step_with_any_first_for_constant},
+    "code 6 refused": root_step_with(code=0),
+    "code 7 read as a root": {"step_in_order": code_7_as_a_root},
+    "a root with any second": root_step_with(second=0),
+    "a root with any value": root_step_with(value=0),
+    "a root of itself": {"step_in_order": root_of_itself},
+    "a root of row 0": {"step_in_order": root_of_row_0},
+    "a root of two rows": {"step_in_order": root_with_two_rows},
 }
 
 
@@ -621,7 +827,7 @@ def evaluate_needing(table_length, ranges_length):
     def evaluate(schedule, table, ranges):
         answer = REAL_CALLS["evaluate"](schedule, list(table), list(ranges))
         short = len(table) < table_length or len(ranges) < ranges_length
-        if answer.number in (0, 6, 7) and short:
+        if answer.number in (0, *ROW_CAUSES) and short:
             return evaluation.Answer(8, 0)
         return REAL_CALLS["evaluate"](schedule, table, ranges)
 
@@ -637,29 +843,33 @@ def evaluate_without_measuring(schedule, table, ranges):
     return answer
 
 
-def evaluate_and_fill(first, second):
-    """After 6 or 7 the row refused is filled with 0, in the tables named."""
+# The causes for which a row does not come about.
+ROW_CAUSES = (6, 7, 12)
+
+
+def evaluate_and_fill(first, second, causes=ROW_CAUSES):
+    """After these causes the row refused is filled with 0, in the tables named."""
 
     def evaluate(schedule, table, ranges):
         answer = REAL_CALLS["evaluate"](schedule, table, ranges)
-        if answer.number in (6, 7) and first:
+        if answer.number in causes and first:
             table[52 * (answer.place - 1) : 52 * answer.place] = [0] * 52
-        if answer.number in (6, 7) and second:
+        if answer.number in causes and second:
             ranges[2 * (answer.place - 1) : 2 * answer.place] = [0] * 2
         return answer
 
     return {"evaluate": evaluate}
 
 
-def evaluate_and_undo(first, second):
-    """After 6 or 7 no row is written, in the tables named."""
+def evaluate_and_undo(first, second, causes=ROW_CAUSES):
+    """After these causes no row is written, in the tables named."""
 
     def evaluate(schedule, table, ranges):
         before = list(table), list(ranges)
         answer = REAL_CALLS["evaluate"](schedule, table, ranges)
-        if answer.number and first:
+        if answer.number in causes and first:
             table[:] = before[0]
-        if answer.number and second:
+        if answer.number in causes and second:
             ranges[:] = before[1]
         return answer
 
@@ -755,6 +965,10 @@ OTHER_CALLS = {
     "the refused row cleared in the second table": evaluate_and_fill(False, True),
     "no row written beside a refusal": evaluate_and_undo(True, False),
     "no range written beside a refusal": evaluate_and_undo(False, True),
+    "the row refused by 12 cleared": evaluate_and_fill(True, False, (12,)),
+    "the row refused by 12 cleared in the second table": evaluate_and_fill(False, True, (12,)),
+    "no row written beside a 12": evaluate_and_undo(True, False, (12,)),
+    "no range written beside a 12": evaluate_and_undo(False, True, (12,)),
     "a number written beyond the rows": {"evaluate": evaluate_one_number_further},
     "a number written beyond the ranges": {"evaluate": evaluate_one_end_further},
 }

@@ -6,6 +6,7 @@
 
 import collections
 import itertools
+import math
 import pathlib
 import random
 import re
@@ -79,7 +80,7 @@ def numbers(centre, linear, pairs=()):
 
 
 class ProvedExamples(unittest.TestCase):
-    """P1 to P13, "Proved examples" (manual, section 5.11), and the listing."""
+    """P1 to P13, "Proved examples" (manual, section 5.13), and the listing."""
 
     def test_p1_ends_0_1(self):
         row = input_alone(0, 1)
@@ -272,12 +273,18 @@ class Reading(unittest.TestCase):
             (steps + b"1 0 0 268435456", (2, 6)),
             (steps + b"1 0 0 0\n\n", (2, 7)),
             (steps + b"1 0 0 0\n" + b"0" * 2000, (1, 0)),
-            (steps + b"6 0 0 0\n\n", (5, 6)),
+            (steps + b"0 1 0 0\n\n", (5, 6)),
             (steps + b"2 1 2 0\n", (5, 6)),
             (steps + b"2 1 0 0\n", (5, 6)),
             (steps + b"2 1 1 1\n", (5, 6)),
             (steps + b"5 1 1 0\n", (5, 6)),
             (steps + b"5 1 0 0\n", (0, 0)),
+            (steps + b"6 1 0 0\n", (0, 0)),
+            (steps + b"6 0 0 0\n", (5, 6)),
+            (steps + b"6 2 0 0\n", (5, 6)),
+            (steps + b"6 1 1 0\n", (5, 6)),
+            (steps + b"6 1 0 1\n", (5, 6)),
+            (steps + b"7 1 0 0\n", (5, 6)),
             (steps + b"1 1 0 0\n", (5, 6)),
         ]:
             with self.subTest(data=data[:200]):
@@ -541,6 +548,242 @@ class OddEnds(unittest.TestCase):
             self.assertEqual(len(reciprocal_of_input(low, high, 0)), 52)
 
 
+def root_of_constant(value):
+    return last_row(0, [(0, 0)], [*constant_steps(value), (6, 2, 0, 0)])
+
+
+def root_of_input(low, high, squares):
+    return last_row(squares, [(low, high)], [(6, 1, 0, 0)])
+
+
+def small_above_square(wide, linear, constant):
+    """The sheet of constant + wide²/4096 × a² + linear × b, and its root as the last row."""
+    ends = [(-wide, wide), (-linear, linear)]
+    steps = [(4, 1, 1, 0), (1, 0, 0, constant), (2, 3, 4, 0), (2, 5, 2, 0), (6, 6, 0, 0)]
+    return 1, ends, steps
+
+
+class Roots(unittest.TestCase):
+    """Code 6, with numbers worked by hand."""
+
+    def test_constants_that_are_squares(self):
+        """4096 × k² is the square of 64 × k, so B is 0, and the own coefficient the 1 more."""
+        for k in (1, 2, 3, 64, 100, 16_384):
+            self.assertEqual(root_of_constant(k * k), numbers(64 * k, {3: 1}))
+
+    def test_constants_beside_squares(self):
+        """4096 × 2 = 90² + 92, and 92/90, up, is 2; 4096 × 3 = 110² + 188; 4096 × 5 = 143² + 31, and
+        31/143, up, is 1; 4096 × 1023 is one less than 2047², and 4091/2046, up, is 2."""
+        for value, root, own in [(2, 90, 3), (3, 110, 3), (5, 143, 2), (1023, 2046, 3)]:
+            self.assertEqual(root_of_constant(value), numbers(root, {3: own}))
+
+    def test_ends_4096_8192(self):
+        """4096 × 6144 = 5016² + 5568; 2048 × 2048 / 5016 is 836, and 4096 × 2048 is 2 × 5016 × 836 +
+        1856; 836² is a pair's total or dropped. 5568 + 1856 + 698896 over 4096, up, is 173."""
+        for squares in (0, 1):
+            row = root_of_input(4096, 8192, squares)
+            self.assertEqual(row, numbers(5016, {1: 836, 2: 174}))
+            self.assertEqual(rows.form_range(row), (4006, 6026))
+
+    def test_ends_1_3(self):
+        """z is 90, the slope 2048/90 = 22; 92 + 136 + 484 over 64, up, is 12."""
+        self.assertEqual(root_of_input(1, 3, 0), numbers(90, {1: 22, 2: 13}))
+
+    def test_a_slope_is_rounded_down(self):
+        """3 - a: -2048/110 is -19; 188 + |-4096 + 4180| + 361 over 90, up, is 8."""
+        operand = numbers(3, {1: -1})
+        row = rows.root(operand, rows.form_range(operand), 0, 2)
+        self.assertEqual(row, numbers(110, {1: -19, 2: 9}))
+
+    def test_pairs_have_slopes_too(self):
+        """4 + a + 2ab - b² with squares 2 has its low at 0; with 5 the root is 143, the slopes 14, 28
+        and -15. B: 31, a 4096 - 4004, ab 8192 - 8008, b² |-4096 + 4290|, a² 196 as a total; the
+        product of all, 57², less 14² is dropped. (31 + 92 + 184 + 194 + 196 + 3053) / 64 is 58.6."""
+        operand = numbers(4, {1: 1}, [0, 2])
+        operand[37] = -1
+        self.assertEqual(rows.form_range(operand).low, 0)
+        with self.assertRaises(rows.RowRefusal) as refused:
+            rows.root(operand, rows.form_range(operand), 2, 3)
+        self.assertEqual(refused.exception.number, 12)
+        operand[0] = 5
+        expected = numbers(143, {1: 14, 3: 60}, [0, 28])
+        expected[37] = -15
+        self.assertEqual(rows.root(operand, rows.form_range(operand), 2, 3), expected)
+
+    def test_12_at_the_ends(self):
+        """An input goes by its low end; a sum with 0 by its form, which reaches one lower where low +
+        high is odd."""
+        for low, high in [(0, 0), (0, 1), (0, 5), (-1, 1), (-5, -1), (-1, 2**28), (-(2**28), 2**28)]:
+            self.assertEqual(root_of_input(low, high, 0), (12, 2))
+        for low, high in [(1, 1), (1, 2), (1, 3), (1, 2**20), (2, 2), (2, 3), (2**28, 2**28)]:
+            self.assertEqual(len(root_of_input(low, high, 0)), 52)
+        steps = [(1, 0, 0, 0), (2, 1, 2, 0), (6, 3, 0, 0)]
+        self.assertEqual(last_row(0, [(1, 2)], steps), (12, 4))
+        self.assertEqual(len(last_row(0, [(1, 3)], steps)), 52)
+        self.assertEqual(len(last_row(0, [(2, 3)], steps)), 52)
+
+    def test_low_is_that_of_the_ends(self):
+        """3 + a, with the ends 3 and 4: 188 + |4096 - 3960| + 324 over the root of 4096 × 3, 110, up,
+        is 6; by the form it would be over 90, which is 8."""
+        self.assertEqual(root_of_input(3, 4, 0), numbers(110, {1: 18, 2: 7}))
+        steps = [(1, 0, 0, 0), (2, 1, 2, 0), (6, 3, 0, 0)]
+        self.assertEqual(last_row(0, [(3, 4)], steps), numbers(110, {1: 18, 4: 9}))
+
+    def test_12_before_6(self):
+        """A candidate over the span: 32 × 2^26. With a linear part its operand starts at 0."""
+        wide = 2**19
+        self.assertEqual(last_row(*small_above_square(wide, 0, 1)), (6, 7))
+        self.assertEqual(last_row(*small_above_square(wide, 1, 1)), (12, 7))
+        self.assertEqual(last_row(*small_above_square(wide, 1, 2)), (6, 7))
+
+    def test_6_of_the_finished_row(self):
+        """1 + p a²: the candidate is 64 + 32 p a², and (32 p)² is dropped, so that the own coefficient
+        is 16 p² + 1. With p = 90² the row keeps within the span, with 91² its candidate alone does."""
+        for k, accepted in ((90, True), (91, False)):
+            squares, ends, steps = small_above_square(64 * k, 0, 1)
+            candidate = rows.root_candidate(last_row(squares, ends, steps[:-1]))
+            self.assertEqual(candidate, numbers(64, {}, [32 * k**2]))
+            own = 16 * k**4 + 1
+            self.assertEqual(64 + 32 * k**2 + own <= rows.SPAN_LIMIT, accepted)
+            expected = numbers(64, {7: own}, [32 * k**2]) if accepted else (6, 7)
+            self.assertEqual(last_row(squares, ends, steps), expected)
+
+    def refusal(self, operand, own_range, squares=0):
+        with self.assertRaises(rows.RowRefusal) as refused:
+            rows.root(operand, own_range, squares, 3)
+        return refused.exception.number
+
+    def test_order_of_the_causes_of_one_row(self):
+        """Of rows with a range that is not theirs, since with its own no candidate starts below 0."""
+        above, below = rows.Range(1, 1), rows.Range(0, 9)
+        passes_and_starts_below = numbers(1, {1: 2**26})
+        starts_below = numbers(1, {1: 3})
+        starts_at_0, starts_at_minus_1 = numbers(64, {1: 128}), numbers(64, {1: 129})
+        self.assertEqual(self.refusal(passes_and_starts_below, below), 12)
+        self.assertEqual(self.refusal(passes_and_starts_below, above), 6)
+        self.assertEqual(self.refusal(starts_below, above), 12)
+        self.assertEqual(rows.root_candidate(starts_at_0)[:2], [512, 512])
+        self.assertEqual(len(rows.root(starts_at_0, above, 0, 3)), 52)
+        self.assertEqual(rows.root_candidate(starts_at_minus_1)[:2], [512, 516])
+        self.assertEqual(self.refusal(starts_at_minus_1, above), 12)
+
+    def test_no_candidate_of_a_sheet_starts_below_0(self):
+        """Where a row's own range starts at 1 or above, its candidate starts far above 0."""
+        count = 0
+        for schedule in schedules_read("candidates", 3000):
+            for row in evaluation.work(schedule).rows:
+                if row.own_range.low >= 1:
+                    made = rows.root_candidate(row.numbers)
+                    self.assertGreaterEqual(3 * rows.low(made), made[0])
+                    count += 1
+        self.assertGreater(count, 5000)
+
+    def test_every_own_coefficient_is_above_0(self):
+        count = 0
+        for schedule in schedules_read("own coefficients", 1000):
+            inputs = schedule.counts.inputs
+            worked = evaluation.work(schedule).rows[inputs:]
+            for row, (step, made) in enumerate(zip(schedule.steps, worked), inputs + 1):
+                if step.code == sheet.ROOT:
+                    self.assertGreater(made.numbers[row], 0)
+                    count += 1
+        self.assertGreater(count, 300)
+
+    def test_exact_roots(self):
+        """By definition: the greatest whole number whose square is at most N times the value."""
+        rng = random.Random("exact roots")
+        values = [demand3.Fraction(*part) for part in [(0, 1), (1, 4096), (2, 4096), (1, 3), (1, 10**9)]]
+        for _ in range(300):
+            below = rng.choice((1, 1, 3, 4096, 10**6))
+            near = rng.randint(0, 1 << rng.randint(1, 30)) ** 2 + rng.randint(-1, 1)
+            values.append(demand3.Fraction(abs(near), below * rng.choice((1, rows.N))))
+        for value in values:
+            root = demand3.exact_root(value) * rows.UNIT
+            self.assertEqual(root.denominator, 1)
+            self.assertGreaterEqual(root, 0)
+            self.assertLessEqual(root**2, rows.N * value)
+            self.assertGreater((root + 1) ** 2, rows.N * value)
+        below_a_unit = demand3.Fraction(rows.UNIT - 1, rows.UNIT * rows.UNIT)
+        with self.assertRaises(demand3.NoRoot):
+            demand3.exact_step(sheet.Step(sheet.ROOT, 1, 0, 0), [below_a_unit])
+
+    def test_demand_3_about_every_square(self):
+        """Roots of small inputs, and what follows from them, at and just below every square."""
+        count = 0
+        for (low, high), squares in itertools.product(ROOT_ENDS, (0, 1)):
+            steps = [(6, 1, 0, 0), (4, 2, 2, 0), (3, 3, 1, 0), (6, 2, 0, 0), (5, 2, 0, 0)]
+            handed = sheet.schedule(squares, [(low, high)], steps)
+            if evaluation.work(handed).number:
+                handed = sheet.schedule(squares, [(low, high)], steps[:3])
+            for value in about_squares(low, high):
+                symbols = demand3.any_symbols(random.Random(count))
+                self.assertEqual(demand3.violations(handed, [value / rows.UNIT], symbols), [])
+                count += 1
+        self.assertGreater(count, 1000)
+
+    def test_a_root_that_cannot_be_taken_is_found(self):
+        """Where a root of a row below 1 is let through, an exact value below 0 is no root's."""
+        handed = sheet.schedule(0, [(-1, 9)], [(6, 1, 0, 0)])
+        with spoilt.spoilt("a root where low is below 1"):
+            seen = demand3.violations(handed, [demand3.Fraction(-1, 4096)], [0] * 31)
+        self.assertEqual(seen, [demand3.ROOT])
+
+    def test_roots_are_as_frequent_as_reciprocals(self):
+        codes, accepted = collections.Counter(), collections.Counter()
+        for schedule in schedules_read("roots", 2000):
+            steps = schedule.steps[: schedule.counts.steps]
+            codes.update(step.code for step in steps)
+            worked = len(evaluation.work(schedule).rows) - schedule.counts.inputs
+            accepted.update(step.code for step in steps[: max(worked, 0)])
+        for counted in (codes, accepted):
+            share = counted[sheet.ROOT] / counted[sheet.RECIPROCAL]
+            self.assertTrue(0.6 < share < 1.5, share)
+
+    def test_roots_of_squares_and_low_ends_are_generated(self):
+        """Constants and low ends at squares and one off, low ends 0, 1 and 2, and every refusal."""
+        constants, lows, refused = collections.Counter(), collections.Counter(), collections.Counter()
+        for schedule in schedules_read("root operands", 4000):
+            inputs, _, count = schedule.counts
+            worked = evaluation.work(schedule)
+            for row, step in enumerate(schedule.steps[:count], inputs + 1):
+                if step.code != sheet.ROOT:
+                    continue
+                refused[worked.number] += row == worked.place
+                if step.first <= inputs:
+                    lows[min(max(schedule.ends[step.first - 1].low, -1), 3)] += 1
+                elif schedule.steps[step.first - inputs - 1].code == sheet.CONSTANT:
+                    constants[distance_to_square(schedule.steps[step.first - inputs - 1].value)] += 1
+        self.assertGreater(min(lows[low] for low in (-1, 0, 1, 2, 3)), 25)
+        self.assertGreater(min(constants[near] for near in (-1, 0, 1)), 20)
+        self.assertGreater(min(refused[6], refused[12]), 30)
+
+
+ROOT_ENDS = [
+    (1, 1), (1, 2), (1, 3), (1, 4), (2, 3), (2, 9), (3, 4), (4, 4), (15, 17), (1, 1000), (984, 1064),
+    (1023, 1024), (4096, 8192), (4096, 8191), (2**20 - 1, 2**20 + 1), (2**28 - 1, 2**28),
+]
+
+
+def about_squares(low, high):
+    """Both ends, the middle, and values within the ends for which 4096 times them is a square or
+    1/1000 less, up to 40 squares."""
+    values = {demand3.Fraction(low), demand3.Fraction(high), demand3.Fraction(low + high, 2)}
+    first, last = math.isqrt(rows.UNIT * low), math.isqrt(rows.UNIT * high)
+    for root in range(first, last + 1, max(1, (last - first) // 40)):
+        for short in (0, demand3.Fraction(1, 1000)):
+            values.add((root**2 - short) / demand3.Fraction(rows.UNIT))
+    return sorted(value for value in values if low <= value <= high)
+
+
+def distance_to_square(value):
+    """The least number, by its absolute value, that takes the value to a square; 2 where it is
+    another, or the value is below 1."""
+    for near in (0, -1, 1):
+        if value >= 1 and value + near >= 0 and math.isqrt(value + near) ** 2 == value + near:
+            return near
+    return 2
+
+
 class Evaluating(unittest.TestCase):
     example = sheet.read(listing.EXAMPLE_SHEET).schedule
 
@@ -560,7 +803,7 @@ class Evaluating(unittest.TestCase):
             self.assertEqual((table, ranges), ([-9] * lengths[0], [-8] * lengths[1]))
 
     def test_after_a_refusal_the_rows_before_are_written(self):
-        for step, number in [((5, 1, 0, 0), 7), ((4, 2, 2, 0), 6)]:
+        for step, number in [((5, 1, 0, 0), 7), ((4, 2, 2, 0), 6), ((6, 1, 0, 0), 12)]:
             handed = sheet.schedule(0, [(-5, 4)], [(1, 0, 0, 2**28), step, (2, 1, 1, 0)])
             table, ranges = [-9] * (52 * 4), [-8] * (2 * 4)
             self.assertEqual(evaluation.evaluate(handed, table, ranges), (number, 3))
@@ -636,7 +879,7 @@ class Samples(unittest.TestCase):
             self.assertEqual(answer, sample.refusal, sample)
             for table, length, written in zip(tables, sample.lengths, sample.written):
                 self.assertEqual(table, written + [sample.fill] * (length - len(written)))
-        self.assertEqual(len(found), 150)
+        self.assertEqual(len(found), 300)
 
     def test_ranges(self):
         found = samples.ranges()
@@ -653,7 +896,7 @@ class Samples(unittest.TestCase):
 
     def test_no_call_is_of_another_kind(self):
         kinds = collections.Counter(made["call"] for made in samples.objects("calls.jsonl"))
-        self.assertEqual(kinds, {"evaluate": 150, "range": 150})
+        self.assertEqual(kinds, {"evaluate": 300, "range": 150})
 
 
 def schedules_read(seed, count):
@@ -764,14 +1007,14 @@ class Demand3(unittest.TestCase):
                 self.assertTrue(any(violated_clauses(schedules)))
 
     def test_teeth_of_every_clause(self):
-        """Each clause is found violated in some unsound arithmetic."""
+        """Each clause is found violated in some unsound arithmetic; that of roots: `Roots`."""
         clauses = {demand3.EQUAL_EXACTLY_WHEN, demand3.FOUND, demand3.DIVISOR, demand3.RANGE}
-        schedules = schedules_read("clauses", 500)
+        schedules = schedules_read("clauses", 1500)
         seen = set()
         for name in ("an input's own coefficient one smaller", "no dropped part"):
             with spoilt.spoilt(name):
                 seen |= set(violated_clauses(schedules))
-        self.assertEqual(seen, clauses | {demand3.SAME})
+        self.assertEqual(seen - {demand3.ROOT}, clauses | {demand3.SAME})
 
     def test_a_shared_symbol_narrows_ranges_and_confuses_rows(self):
         schedules = schedules_read("shared", 1000)
@@ -787,7 +1030,7 @@ class Generators(unittest.TestCase):
 
     def test_every_outcome_occurs(self):
         outcomes = generate.outcomes("outcomes", 0, 2000)
-        self.assertEqual(sorted(outcomes), list(range(8)))
+        self.assertEqual(sorted(outcomes), [*range(8), 12])
         self.assertGreater(outcomes[0], 600)
 
     def test_the_first_sheets_tell_every_fault(self):
@@ -833,25 +1076,25 @@ class LibraryCalls(unittest.TestCase):
             word: {int(field[1]) for field in fields if field[:1] == [word]}
             for word in (b"evaluate", b"range", b"same", b"write", b"list", b"formula")
         }
-        self.assertEqual(seen[b"evaluate"], {0, 3, 4, 5, 6, 7, 8})
+        self.assertEqual(seen[b"evaluate"], {0, 3, 4, 5, 6, 7, 8, 12})
         self.assertEqual(seen[b"range"], {0, 6, 8, 9})
         self.assertEqual(seen[b"same"], {0, 6, 8, 9})
         self.assertEqual(seen[b"write"], {0, 3, 4, 5, 8})
         self.assertEqual(seen[b"list"], {0, 8})
         self.assertEqual(seen[b"formula"], {0, 3, 4, 5, 10, 11})
         texts = [after for line, after in zip(fields, fields[1:]) if line == [b"refused", b"place"]]
-        self.assertEqual({int(number) for number, _ in texts}, set(range(1, 9)))
+        self.assertEqual({int(number) for number, _ in texts}, {*range(1, 9), 12})
 
     def test_the_calls_tell_every_fault(self):
         """Listings tell the faults of listing, formulas those of formula, the other calls those of
-        evaluation, and listings and other calls those of ranges."""
+        evaluation and of roots, and listings and other calls those of ranges."""
         every = library_calls.calls()
         of_listing = (library_calls.TABLE, library_calls.RANGES, library_calls.LIST)
         of_formula = (library_calls.INPUTS, library_calls.FORMULA)
         listings = [call for call in every if call[0] in of_listing]
         formulas = [call for call in every if call[0] in of_formula]
         others = [call for call in every if call[0] not in (library_calls.LIST, *of_formula)]
-        self.assert_told(others, spoilt.OTHER_CALLS)
+        self.assert_told(others, spoilt.OTHER_CALLS | spoilt.OF_ROOTS)
         for calls in (others, listings):
             self.assert_told(calls, spoilt.UNSOUND_RANGES | spoilt.OTHER_RANGES | spoilt.BY_FORM)
         self.assert_told(listings, spoilt.OTHER_LISTINGS)

@@ -371,7 +371,7 @@ def check_formula_row(row, part, step) -> None:
 
 
 TABLES = [
-    (MANUAL, "| example | squares | ends | steps | shown | centre | symbol 1 | pair (1,1) | own | low | high |", check_example, 15),
+    (MANUAL, "| example | squares | ends | steps | shown | centre | symbol 1 | pair (1,1) | own | low | high |", check_example, 22),
     (MANUAL, "| row | its centre | its symbol 1 | its symbol 2 | numbers of the second table | low | high |", check_lent, 3),
     (MANUAL, "| field | from | to |", check_field, len(FIELDS)),
     (MANUAL, "| pairs | numbers |", check_pairs, 6),

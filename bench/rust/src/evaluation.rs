@@ -32,6 +32,7 @@ fn work_row(schedule: &Schedule, table: &[Row], ranges: &[Range], own: usize) ->
         2 => rows::add(&table[step.first - 1], &table[step.second - 1]),
         3 => rows::subtract(&table[step.first - 1], &table[step.second - 1]),
         4 => rows::multiply(&table[step.first - 1], &table[step.second - 1], squares, own),
-        _ => rows::reciprocal(&table[step.first - 1], ranges[step.first - 1], squares, own),
+        5 => rows::reciprocal(&table[step.first - 1], ranges[step.first - 1], squares, own),
+        _ => rows::root(&table[step.first - 1], ranges[step.first - 1], squares, own),
     }
 }

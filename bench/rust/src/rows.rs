@@ -190,3 +190,41 @@ pub fn reciprocal(x: &Row, range: Range, squares: usize, own: usize) -> Answer {
     row.linear[own] = error_bound(x, &row, squares).div_ceil(distance) as i64;
     row.checked()
 }
+
+/// The whole-number root of 4096 times a value that is not negative, rounded down.
+fn unit_root(value: i64) -> u64 {
+    (4096 * value.unsigned_abs()).isqrt()
+}
+
+fn root_candidate(x: &Row) -> Row {
+    let z = unit_root(x.centre) as i64;
+    let slope = |v| floor_quotient(2048 * v, z);
+    Row { centre: z, linear: x.linear.map(slope), pair: x.pair.map(slope) }
+}
+
+/// A bound of 4096 times a row less the square of its root's candidate.
+fn square_bound(x: &Row, z: &Row, squares: usize) -> u64 {
+    let mut bound = (4096 * x.centre - z.centre * z.centre).unsigned_abs() + dropped(z, z, squares);
+    for i in 0..SYMBOLS {
+        bound += (4096 * x.linear[i] - linear_total(z, z, i)).unsigned_abs();
+    }
+    for (k, &(i, j)) in ORDER.iter().enumerate() {
+        if j < squares {
+            bound += (4096 * x.pair[k] - pair_total(z, z, k, i, j)).unsigned_abs();
+        }
+    }
+    bound
+}
+
+/// The root of a row of this range, or 12 where the range or the candidate's is too low.
+pub fn root(x: &Row, range: Range, squares: usize, own: usize) -> Answer {
+    if range.low < 1 {
+        return Err(12);
+    }
+    let (mut row, Range { low, .. }) = root_candidate(x).checked()?;
+    if low < 0 {
+        return Err(12);
+    }
+    row.linear[own] = square_bound(x, &row, squares).div_ceil(unit_root(range.low)) as i64 + 1;
+    row.checked()
+}

@@ -46,7 +46,7 @@ fn step_passes(earlier: usize, code: i64, first: i64, second: i64, value: i64) -
     match code {
         1 => first == 0 && second == 0 && within_limit(value),
         2..=4 => rows.contains(&first) && rows.contains(&second) && value == 0,
-        5 => rows.contains(&first) && second == 0 && value == 0,
+        5 | 6 => rows.contains(&first) && second == 0 && value == 0,
         _ => false,
     }
 }

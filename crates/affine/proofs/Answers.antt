@@ -24,7 +24,7 @@ told r = record { within = true; radius = radius r; range = formRange r }
 abbrev over : Row → Measured
 over r = record { within = false; radius = radius r; range = record { low = pos 0; high = pos 0 } }
 
--- what was measured gives the row's span test and radius, and the answer with the range that was measured
+-- what was measured gives the row's span test, radius and range, and the answer with the range that was measured
 module _ (r : Row) {m : Measured} (is : m ≡ measured r) where
   pub within-measured : m .within ≡ withinSpan r
   within-measured = ap (λ (n : Measured). n .within) is ∙ by-test (withinSpan r)
@@ -39,6 +39,10 @@ module _ (r : Row) {m : Measured} (is : m ≡ measured r) where
       by-test : (t : Bool) → pick t (told r) (over r) .radius ≡ radius r
       by-test true = refl
       by-test false = refl
+
+  -- and where it is within the span, its range
+  pub range-measured : withinSpan r ≡ true → m .range ≡ formRange r
+  range-measured e = ap (λ (n : Measured). n .range) is ∙ ap (λ t. pick t (told r) (over r) .range) e
 
   pub answer-measured : pick (m .within) (accepted r (m .range)) (refused SpanPassed) ≡ checked r
   answer-measured = ap (λ (n : Measured). pick (n .within) (accepted r (n .range)) (refused SpanPassed)) is ∙ by-test (withinSpan r)

@@ -20,6 +20,8 @@ use Rattle.affine.specs.Lists.{pick}
 use Rattle.affine.specs.Row.{pairsBelow, pairsAbove, low, high, formRange}
 use Rattle.affine.specs.Steps.{refused}
 use Rattle.affine.specs.Reciprocal.{zeroInRange, distance, reciprocal, reciprocalApart, Outweighs, ApartOutweighs}
+use Rattle.affine.specs.Root.{Centred}
+use Rattle.affine.proofs.RangeSize.{low-not-above-centre}
 
 -- ---- one test is the other turned round
 above-not-below : (a b : ℤ) → ltZ a b ≡ true → leZ b a ≡ false
@@ -100,10 +102,13 @@ module _ (x : Row) where
       (ap natAbs (linℤ 3 (λ c m z. neg z ≗ c ⊕ m ⇒ so (c ≗ neg (z ⊕ m))) (x .centre) (pos (l + m)) (pos a) (omega arith) e)
       ∙ natAbs-neg (pos (a + (l + m))))
 
-  pub form-outweighs : ApartOutweighs (formRange x) x
+  form-outweighs : ApartOutweighs (formRange x) x
   unfolding low high
   form-outweighs e = by-side (distance-is-end (formRange x) e)
     where
       by-side : (0 < distance (formRange x)) × ((pos (distance (formRange x)) ≡ low x) ⊎ (negℤ (pos (distance (formRange x))) ≡ high x)) → Outweighs x
       by-side (h, inl q) = above-outweighs (distance (formRange x)) (pairsBelow (x .pair)) h q
       by-side (h, inr q) = below-outweighs (distance (formRange x)) (pairsAbove (x .pair)) h q
+
+  pub form-centred : Centred (formRange x) x
+  form-centred = record { outweighs = form-outweighs; low-below = low-not-above-centre x }

@@ -72,7 +72,7 @@ module _ (𝓞 : OrderedRing) where
   units-withOwn own v r ε h = add-cong (rfl _) (add-cong (dot-set (𝓞 .ring) (r .linear) own v ε h) (rfl _))
 
   -- a quotient rounded up is enough
-  ceiling-enough : (n d : ℕ) → 0 < d → le (whole (pos n)) (whole (pos d) · whole (pos (ceilingQuotient n d)))
+  pub ceiling-enough : (n d : ℕ) → 0 < d → le (whole (pos n)) (whole (pos d) · whole (pos (ceilingQuotient n d)))
   ceiling-enough n d h =
       le-cong 𝓞 (rfl _)
       (subst (λ m. whole (pos m) ~ whole (pos d) · whole (pos (ceilingQuotient n d))) (mul-comm d (ceilingQuotient n d)) (whole-mul (pos d) (pos (ceilingQuotient n d))))

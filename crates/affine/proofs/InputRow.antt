@@ -20,6 +20,7 @@ use Rattle.affine.specs.Lists.{at}
 use Rattle.affine.specs.Row.{span, radius}
 use Rattle.affine.specs.Steps.{inputCentre, inputRow, endsRange}
 use Rattle.affine.specs.Reciprocal.{distance, Outweighs, ApartOutweighs}
+use Rattle.affine.specs.Root.{Centred}
 use Rattle.affine.proofs.SumLaws.{sumAbs-set, sumAbs-set-zero, sumAbs-zeros}
 use Rattle.affine.proofs.RowSize.{span-is-sum}
 use Rattle.affine.proofs.Distance.{distance-is-end}
@@ -80,6 +81,10 @@ middle-near-centre low high =
     (centre-divides low high)
     (rw (remainder-is (low +ℤ high) 2 (omega arith)) (pos-≤ℤ (omega (arith, remainderBy-small (low +ℤ high) 2 (omega arith)))))
 
+low-end-not-above-centre : (low high : ℤ) → low ≤ℤ high → low ≤ℤ inputCentre low high
+low-end-not-above-centre low high order =
+    linℤ 3 (λ l h c. l ⊴ h ⇒ l ⊕ h ⊴ con (pos 2) ⊗ c ⊕ con (pos 1) ⇒ so (l ⊴ c)) low high (inputCentre low high) (omega arith) order (middle-near-centre low high)
+
 -- ---- ends that do not hold 0
 -- v no farther from 0 than c
 outweighed : (c v : ℤ) → pos 1 ≤ℤ c → negℤ c ≤ℤ v → v ≤ℤ c → (0 < natAbs c) × (natAbs v ≤ natAbs c)
@@ -120,10 +125,13 @@ module _ (own : ℕ) (low high : ℤ) (order : low ≤ℤ high) where
       (linℤ 4 (λ l h c a. con (pos 1) ⊴ a ⇒ neg a ≗ h ⇒ l ⊴ h ⇒ con (pos 2) ⊗ c ⊴ l ⊕ h ⇒ so (neg (neg c) ⊴ h ⊖ c)) low high c (pos a) (omega arith) some e order below)
       (linℤ 4 (λ l h c a. con (pos 1) ⊴ a ⇒ neg a ≗ h ⇒ so (h ⊖ c ⊴ neg c)) low high c (pos a) (omega arith) some e))
 
-  pub input-outweighs : ApartOutweighs (endsRange low high) (inputRow own low high)
+  input-outweighs : ApartOutweighs (endsRange low high) (inputRow own low high)
   input-outweighs e = by-side (distance-is-end (endsRange low high) e)
     where
       by-side : (0 < distance (endsRange low high)) × ((pos (distance (endsRange low high)) ≡ low) ⊎ (negℤ (pos (distance (endsRange low high))) ≡ high))
           → Outweighs (inputRow own low high)
       by-side (h, inl q) = row-outweighs (ends-above (distance (endsRange low high)) h q)
       by-side (h, inr q) = row-outweighs (ends-below (distance (endsRange low high)) h q)
+
+  pub input-centred : Centred (endsRange low high) (inputRow own low high)
+  input-centred = record { outweighs = input-outweighs; low-below = low-end-not-above-centre low high order }

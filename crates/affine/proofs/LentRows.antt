@@ -2,13 +2,13 @@
 use mathlib.Core.Path.{_≡_, sym, ap, ap₂, subst}
 use mathlib.Core.List.{List}
 use Prim.Native.Nat.{ℕ, _≤_}
-use lib.IntN.{ℤ}
+use native.Mathlib.Omega.{arith}
+use lib.IntN.{ℤ, pos}
 use mir.Syntax.{w64}
 use mir.Val.{SFits, toZ, ofZ}
 use mir.ValLaws.{toZ-ofZ}
 use Rattle.affine.specs.declared.Row.{Row}
 use Rattle.affine.specs.Row.{rowOfParts, span}
-use Rattle.affine.specs.Product.{linearTotals, pairTotals}
 
 -- centre, linear and pair coefficients of the first row, and of the second
 pub record LentRows : Type 0 where
@@ -23,6 +23,10 @@ pub record LentRows : Type 0 where
 
 abbrev pub lentRows : (c : ℤ) (a p : List ℤ) (d : ℤ) (b q : List ℤ) → SFits w64 c → SFits w64 d → LentRows
 lentRows c a p d b q fc fd = record { c = c; a = a; p = p; d = d; b = b; q = q; c-fits = fc; d-fits = fd }
+
+-- the first row without its centre
+abbrev pub uncentred : (a p : List ℤ) (d : ℤ) (b q : List ℤ) → SFits w64 d → LentRows
+uncentred a p d b q fd = lentRows (pos 0) a p d b q (record { sfits = omega arith }) fd
 
 module _ (r : LentRows) where
   abbrev pub given-x : Row
@@ -49,8 +53,6 @@ module _ (r : LentRows) where
   pub read-y-within : {n : ℕ} → span given-y ≤ n → span read-y ≤ n
   read-y-within {n} = subst (λ y. span y ≤ n) (sym y-is)
 
-  pub linear-totals-read : linearTotals read-x read-y ≡ linearTotals given-x given-y
-  linear-totals-read = ap₂ linearTotals x-is y-is
-
-  pub pair-totals-read : (squares : ℕ) → pairTotals squares read-x read-y ≡ pairTotals squares given-x given-y
-  pair-totals-read squares = ap₂ (pairTotals squares) x-is y-is
+  -- what is made of both rows
+  pub read-as-given : {A : Type 0} (f : Row → Row → A) → f read-x read-y ≡ f given-x given-y
+  read-as-given f = ap₂ f x-is y-is

@@ -8,6 +8,7 @@ pub mod PairOrder
 pub mod PairSymbols
 pub mod PairIndex
 pub mod Columns
+pub mod LoopSums
 pub mod RowSize
 pub mod RangeSize
 pub mod Termwise
@@ -18,7 +19,10 @@ pub mod LentRows
 pub mod Agreement
 pub mod CandidateSize
 pub mod Candidate
+pub mod RootCandidate
+pub mod RootStarts
 pub mod ErrorBound
+pub mod SquareError
 pub mod Distance
 pub mod Divided
 pub mod ProductError
@@ -33,4 +37,5 @@ pub mod Enclosure
 pub mod Support
 pub mod StepLaws
 pub mod WellFormed
+pub mod RootEnclosure
 pub mod Sameness

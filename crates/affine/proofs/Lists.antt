@@ -30,6 +30,12 @@ pub at-tabulate : (n : ℕ) (f : ℕ → ℤ) (i : ℕ) → i < n → at (tabula
 at-tabulate n f i h = getD-tabulate n f (pos 0) i h
 
 -- what holds of each f i, and of 0, holds of the number at any index
+pub at-tabulate-zero : (n : ℕ) (f : ℕ → ℤ) (i : ℕ) → (i < n → f i ≡ pos 0) → at (tabulate n f) i ≡ pos 0
+unfolding tabulate
+at-tabulate-zero zero f i h = refl
+at-tabulate-zero (suc n) f zero h = h (omega arith)
+at-tabulate-zero (suc n) f (suc i) h = at-tabulate-zero n (λ i. f (suc i)) i (λ l. h (omega arith))
+
 pub at-tabulate-all : (P : ℤ → Type 0) (n : ℕ) (f : ℕ → ℤ) → P (pos 0) → ((i : ℕ) → P (f i)) → (i : ℕ) → P (at (tabulate n f) i)
 unfolding tabulate
 at-tabulate-all P zero f z h i = z

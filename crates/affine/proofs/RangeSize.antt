@@ -40,10 +40,10 @@ above-less-below (negsuc n) = linℤ 1 (λ v. so (v ≗ con (pos 0) ⊖ neg v)) 
 abbrev pub reach : Bool → Bool → ℤ → ℕ
 reach above square v = pick above (pairAbove square v) (pairBelow square v)
 
-abbrev otherReach : Bool → Bool → ℤ → ℕ
+abbrev pub otherReach : Bool → Bool → ℤ → ℕ
 otherReach above square v = pick square (squareReach (pick above false true) v) 0
 
-both-sides : (above square : Bool) (v : ℤ) → reach above square v + otherReach above square v ≡ natAbs v
+pub both-sides : (above square : Bool) (v : ℤ) → reach above square v + otherReach above square v ≡ natAbs v
 unfolding pairAbove pairBelow
 both-sides true true (pos n) = omega arith
 both-sides true true (negsuc n) = omega arith
@@ -168,6 +168,11 @@ unfolding low high
 low-not-above-high r =
     linℤ 3 (λ c m n. con (pos 0) ⊴ m ⇒ con (pos 0) ⊴ n ⇒ so (c ⊖ m ⊴ c ⊕ n)) (r .centre) (pos (reachBelow r)) (pos (reachAbove r)) (omega arith)
     (pos-≤ℤ (omega arith)) (pos-≤ℤ (omega arith))
+
+pub low-not-above-centre : (r : Row) → low r ≤ℤ r .centre
+unfolding low
+low-not-above-centre r =
+    linℤ 2 (λ c m. con (pos 0) ⊴ m ⇒ so (c ⊖ m ⊴ c)) (r .centre) (pos (reachBelow r)) (omega arith) (pos-≤ℤ (omega arith))
 
 module _ {n : ℕ} (r : Row) (long : length (r .pair) ≡ pairs) (h : span r ≤ n) where
   pub low-within : natAbs (low r) ≤ n

@@ -22,7 +22,10 @@ use Rattle.affine.specs.Steps.{constantRow, withOwn, inputRow, inputCent
 use Rattle.affine.specs.Product.{meeting, linearTotals, pairTotals, totals, productRounding, productRow}
 use Rattle.affine.specs.Reciprocal.{slope, candidateLinear, candidatePair, candidate, reciprocalRow}
 use Rattle.integer.proofs.Sum.{dot-same, dot-change}
+use Rattle.affine.specs.Root.{unitRoot, rootSlope, rootCandidate, rootRow}
+use Rattle.affine.proofs.Lists.{at-tabulate-zero}
 use Rattle.affine.proofs.Candidate.{slope-zero}
+use Rattle.affine.proofs.RootCandidate.{root-slope-zero}
 use Rattle.affine.proofs.Form.{Shaped, pairValue, units}
 
 -- a pair that holds symbol n
@@ -47,12 +50,6 @@ pub at-replicate : (n i : ℕ) → at (replicate n (pos 0)) i ≡ pos 0
 at-replicate zero i = refl
 at-replicate (suc n) zero = refl
 at-replicate (suc n) (suc i) = at-replicate n i
-
-at-tabulate-zero : (n : ℕ) (f : ℕ → ℤ) (i : ℕ) → (i < n → f i ≡ pos 0) → at (tabulate n f) i ≡ pos 0
-unfolding tabulate
-at-tabulate-zero zero f i h = refl
-at-tabulate-zero (suc n) f zero h = h (omega arith)
-at-tabulate-zero (suc n) f (suc i) h = at-tabulate-zero n (λ i. f (suc i)) i (λ l. h (omega arith))
 
 pub constant-free : (n : ℕ) (v : ℤ) → FreeOf n (constantRow v)
 constant-free n v = record { linear = at-replicate symbols n; pair = λ k h p. at-replicate pairs k }
@@ -130,6 +127,18 @@ candidate-free n squares x h =
 pub reciprocal-free : (n squares own : ℕ) (x : Row) (a : ℕ) → n ≢ own → FreeOf n x → FreeOf n (reciprocalRow squares own x a)
 unfolding reciprocalRow
 reciprocal-free n squares own x a d h = withOwn-free n own _ (candidate squares x) d (candidate-free n squares x h)
+
+pub root-candidate-free : (n : ℕ) (x : Row) → FreeOf n x → FreeOf n (rootCandidate x)
+root-candidate-free n x h =
+    let z = unitRoot (x .centre) in
+    record {
+      linear = at-tabulate-zero symbols _ n (λ l. ap (rootSlope z) (h .linear) ∙ root-slope-zero z);
+      pair = λ k l p. at-tabulate-zero pairs _ k (λ m. ap (rootSlope z) (h .pair k l p) ∙ root-slope-zero z);
+    }
+
+pub root-free : (n squares own : ℕ) (x : Row) (least : ℤ) → n ≢ own → FreeOf n x → FreeOf n (rootRow squares own x least)
+unfolding rootRow
+root-free n squares own x least d h = withOwn-free n own _ (rootCandidate x) d (root-candidate-free n x h)
 
 -- ---- values
 module _ (𝓡 : CommutativeRing) where

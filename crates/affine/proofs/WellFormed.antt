@@ -16,9 +16,11 @@ use Rattle.affine.specs.Lists.{at}
 use Rattle.affine.specs.Steps.{constantRow, withOwn, inputRow, inputCentre, zipRows, mapRow}
 use Rattle.affine.specs.Product.{linearTotals, pairTotals, totals, productRounding, productOwn, productRow}
 use Rattle.affine.specs.Reciprocal.{candidate, reciprocalOwn, reciprocalRow}
+use Rattle.affine.specs.Root.{unitRoot, rootSlope, rootCandidate, rootOwn, rootRow}
 use Rattle.affine.proofs.Lists.{length-tabulate, at-tabulate}
 use Rattle.affine.proofs.Form.{Shaped, UsesOnly}
-use Rattle.affine.proofs.Support.{FreeOf, NoPairOf, at-map, at-replicate, totals-free, map-free, candidate-free}
+use Rattle.affine.proofs.Support.{FreeOf, NoPairOf, at-map, at-replicate, totals-free, map-free, candidate-free, root-candidate-free}
+use Rattle.affine.proofs.RootCandidate.{root-slope-zero}
 use Rattle.affine.proofs.Enclosure.{candidate-shaped, candidate-uses}
 use Rattle.affine.proofs.InputRow.{centre-below-middle}
 
@@ -54,6 +56,13 @@ pub reciprocal-shaped : (squares own : ℕ) (x : Row) (a : ℕ) → Shaped (reci
 unfolding reciprocalRow
 reciprocal-shaped squares own x a = withOwn-shaped own _ (candidate squares x) (candidate-shaped squares x)
 
+pub root-candidate-shaped : (x : Row) → Shaped (rootCandidate x)
+root-candidate-shaped x = record { linear = length-tabulate symbols _; pair = length-tabulate pairs _ }
+
+pub root-shaped : (squares own : ℕ) (x : Row) (least : ℤ) → Shaped (rootRow squares own x least)
+unfolding rootRow
+root-shaped squares own x least = withOwn-shaped own _ (rootCandidate x) (root-candidate-shaped x)
+
 -- ---- pairs not in use
 pub constant-uses : (squares : ℕ) (v : ℤ) → UsesOnly squares (constantRow v)
 constant-uses squares v = record { unused = λ k h e. at-replicate pairs k }
@@ -77,6 +86,14 @@ pub reciprocal-uses : (squares own : ℕ) (x : Row) (a : ℕ) → UsesOnly squar
 unfolding reciprocalRow
 reciprocal-uses squares own x a = record { unused = candidate-uses squares x .unused }
 
+pub root-candidate-uses : (squares : ℕ) (x : Row) → UsesOnly squares x → UsesOnly squares (rootCandidate x)
+root-candidate-uses squares x h =
+    record { unused = λ k l e. at-tabulate pairs _ k l ∙ ap (rootSlope (unitRoot (x .centre))) (h .unused k l e) ∙ root-slope-zero (unitRoot (x .centre)) }
+
+pub root-uses : (squares own : ℕ) (x : Row) (least : ℤ) → UsesOnly squares x → UsesOnly squares (rootRow squares own x least)
+unfolding rootRow
+root-uses squares own x least h = record { unused = root-candidate-uses squares x h .unused }
+
 -- ---- the own coefficient
 at-withOwn : (own : ℕ) (v : ℤ) (r : Row) → Shaped r → own < symbols → at (withOwn own v r .linear) own ≡ v
 at-withOwn own v r s h = getD-set-same (r .linear) own v (pos 0) (rw (s .linear) h)
@@ -97,6 +114,10 @@ pub reciprocal-own : (squares own : ℕ) (x : Row) (a : ℕ) → own < symbols �
 unfolding reciprocalRow
 reciprocal-own squares own x a h = at-withOwn own _ (candidate squares x) (candidate-shaped squares x) h
 
+pub root-own : (squares own : ℕ) (x : Row) (least : ℤ) → own < symbols → at (rootRow squares own x least .linear) own ≡ pos (rootOwn squares x least)
+unfolding rootRow
+root-own squares own x least h = at-withOwn own _ (rootCandidate x) (root-candidate-shaped x) h
+
 pub free-no-pair : (n : ℕ) (r : Row) → FreeOf n r → NoPairOf n r
 free-no-pair n r h = record { pair = h .pair }
 
@@ -111,3 +132,7 @@ product-no-pair n squares own x y hx hy =
 pub reciprocal-no-pair : (n squares own : ℕ) (x : Row) (a : ℕ) → FreeOf n x → NoPairOf n (reciprocalRow squares own x a)
 unfolding reciprocalRow
 reciprocal-no-pair n squares own x a h = record { pair = candidate-free n squares x h .pair }
+
+pub root-no-pair : (n squares own : ℕ) (x : Row) (least : ℤ) → FreeOf n x → NoPairOf n (rootRow squares own x least)
+unfolding rootRow
+root-no-pair n squares own x least h = record { pair = root-candidate-free n x h .pair }

@@ -6,6 +6,7 @@ pub mod Steps
 pub mod Product
 pub mod Agreement
 pub mod Reciprocal
+pub mod Root
 pub mod Capped
 pub mod Measured
 pub mod Form

@@ -17,6 +17,10 @@ pairs = 21
 abbrev pub unit : ℕ
 unit = 4096
 
+-- "2048 × the operand's": half of a unit's 4096 parts
+abbrev pub halfUnit : ℕ
+halfUnit = 2048
+
 -- "N is 16,777,216, the square of 4096."
 abbrev pub unitSquared : ℕ
 unitSquared = 16777216

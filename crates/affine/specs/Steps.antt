@@ -7,7 +7,7 @@ use Rattle.integer.specs.Floor.{floorQuotient}
 use Rattle.affine.specs.declared.Row.{Row}
 use Rattle.affine.specs.declared.Range.{Range}
 use Rattle.affine.specs.declared.Status.{Status}
-use Rattle.affine.specs.declared.Status.the-variants.{Accepted, SpanPassed, ZeroInRange}
+use Rattle.affine.specs.declared.Status.the-variants.{Accepted, SpanPassed, ZeroInRange, NoRoot}
 use Rattle.affine.specs.declared.Answer.{Answer}
 use Rattle.affine.specs.Limits.{symbols, pairs}
 use Rattle.affine.specs.Lists.{pick, at, tabulate}
@@ -53,6 +53,7 @@ abbrev pub number : Status → ℕ
 number Accepted = 0
 number SpanPassed = 6
 number ZeroInRange = 7
+number NoRoot = 12
 
 -- a row with its radius, and its own range
 abbrev pub accepted : Row → Range → Answer

@@ -1,10 +1,11 @@
 // Row arithmetic: affine forms with square terms, in whole numbers of 1/4096.
-// The six ways a row comes about are `input`, `constant`, `add`, `subtract`, `multiply` and `invert` (the reciprocal); `within_span` and
-// `same_numbers` tell of rows.
+// The seven ways a row comes about are `input`, `constant`, `add`, `subtract`, `multiply`, `invert` (the reciprocal) and `take_root`;
+// `within_span` and `same_numbers` tell of rows.
 mod form_range;
 pub mod limits;
 pub mod product;
 pub mod reciprocal;
+pub mod root;
 pub mod steps;
 pub mod sums;
 
@@ -29,6 +30,7 @@ pub enum Status {
     Accepted,
     SpanPassed,
     ZeroInRange,
+    NoRoot,
 }
 
 // The answer of an operation: where it was accepted the row, the sum of its absolute coefficients (its radius) and its own range, zeros beside

@@ -7,6 +7,8 @@ pub const PAIRS: usize = 21;
 
 pub const UNIT: u64 = 4096;
 
+pub const HALF_UNIT: i64 = 2048;
+
 pub const UNIT_SQUARED: i64 = 16777216;
 
 pub const SPAN_LIMIT: u64 = 1073741824;

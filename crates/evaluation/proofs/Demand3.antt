@@ -9,10 +9,11 @@ use borrow.Author.Tests.{eqb-false, ne-eqb}
 use lib.Dec.{eqb}
 use lib.IntN.{ℤ, pos, negsuc}
 use lib.ListN.{length, getD}
-use Rattle.integer.specs.Fraction.{Fraction, _≈_, _-ℚ_, _*ℚ_, _/ℚ_, whole}
+use Rattle.integer.specs.Fraction.{Fraction, _≈_, _<ℚ_, _-ℚ_, _*ℚ_, _/ℚ_, whole}
 use Rattle.integer.proofs.Ring.{con, _⊖_, _⊗_, neg, _≐_, ring}
 use Rattle.integer.proofs.Fraction.{ringOfFractions, orderedFractions, ≈-refl, ≈-sym, ≈-trans, +ℚ-cong, *ℚ-cong, times-quotient, not-below-of-≤ℚ}
-use Rattle.integer.proofs.Bound.{le-cong}
+use Rattle.integer.proofs.Bound.{le-cong, le-trans, whole-le}
+use Rattle.integer.proofs.Machine.{≥ℤ-of-test}
 use Rattle.affine.specs.declared.Row.{Row}
 use Rattle.affine.specs.declared.Range.{Range}
 use Rattle.affine.specs.Limits.{unit}
@@ -24,20 +25,19 @@ use Rattle.affine.proofs.Support.{FreeOf}
 use Rattle.affine.proofs.Sameness.{same-is-equal}
 use Rattle.sheet.specs.declared.Schedule.{Schedule}
 use Rattle.sheet.specs.Causes.{accepted}
-use Rattle.sheet.specs.Limits.{lastCode}
 use Rattle.sheet.specs.Lines.{natural, stepAt}
 use Rattle.evaluation.specs.Table.{rowWidth, rangeWidth, tableAfter, rangesAfter, rowOfNumbers, rangeOfNumbers, rowAt, rangeAt}
 use Rattle.evaluation.specs.Work.{rowCount, rowOf, answeredRanges}
 use Rattle.evaluation.specs.Asking.{rangeRefusal, rowsRefusal, rangeTold, rangeRefused, rangeOf, compared, notCompared, sameOf}
 use Rattle.evaluation.specs.declared.RangeAnswer.{RangeAnswer}
 use Rattle.evaluation.specs.declared.SameAnswer.{SameAnswer}
-use Rattle.evaluation.specs.Values.{Within, FromMinusOneToOne, exactValue, ownOf, symbolsOf, nextFound, foundValues, foundValue}
+use Rattle.evaluation.specs.Values.{inUnits, Within, FromMinusOneToOne, exactValue, ownOf, symbolsOf, nextFound, foundValues, foundValue}
 use Rattle.evaluation.specs.Demand3.{InputsWithin, StillHolds, RangeStillHolds, Demand3, Demand-3}
 use Rattle.evaluation.proofs.Sequence.{grown, length-grown, getD-grown, getD-beyond}
 use Rattle.evaluation.proofs.Induction.{AtFound, at-found}
 use Rattle.evaluation.proofs.WorkLaws.{nextRow, rowsUpTo, Went}
 use Rattle.sheet.proofs.Passed.{Passed}
-use Rattle.evaluation.proofs.Made.{row, range, divisor-of}
+use Rattle.evaluation.proofs.Made.{row, range, divisor-of, radicand-of}
 use Rattle.evaluation.proofs.RowLines.{rows-few}
 use Rattle.evaluation.proofs.EveryRow.{none-later}
 use Rattle.evaluation.proofs.RowFacts.{own, own-is, alone, owned}
@@ -222,12 +222,19 @@ module _ (c : Schedule) (pass : Passed c) (x : ℕ → Fraction) (within : Input
         let told : sameOf lent n (suc i) (suc j) ≡ compared (f i) (f j) = same-told lent n (suc i) (suc j) a ∙ ap₂ compared (held-row lent i h p) (held-row lent j k q) in
         row-values i j h k (same-is-equal (f i) (f j) (shaped i h) (shaped j k) (sym (ap (λ (r : SameAnswer). r .same) told) ∙ y))
 
-  divisor-nonzero : (j : ℕ) → j < natural (c .steps) → natural (stepAt c j .code) ≡ lastCode → ¬ (exactValue c x (natural (stepAt c j .first) - 1) ≈ whole (pos 0))
+  divisor-nonzero : (j : ℕ) → j < natural (c .steps) → natural (stepAt c j .code) ≡ 5 → ¬ (exactValue c x (natural (stepAt c j .first) - 1) ≈ whole (pos 0))
   divisor-nonzero j h e z =
       let d = divisor-of c pass x went j h e in
       let i = natural (stepAt c j .first) - 1 in
       own-apart c pass x within went i (d .1) (in-own c pass x within went (S count) (result .all-bounded) i (result .equal-there i (d .0)))
       (≈-trans (scaled-cong z) (ring ringOfFractions 1 (λ u. u ⊗ con (pos 0) ≐ con (pos 0)) tt _))
+
+  root-of-some : (j : ℕ) → j < natural (c .steps) → natural (stepAt c j .code) ≡ 6 → ¬ (exactValue c x (natural (stepAt c j .first) - 1) <ℚ inUnits (pos 1))
+  root-of-some j h e =
+      let d = radicand-of c pass x went j h e in
+      let i = natural (stepAt c j .first) - 1 in
+      let lies = in-own c pass x within went (S count) (result .all-bounded) i (result .equal-there i (d .0)) in
+      within-of-scaled (le-trans orderedFractions (whole-le orderedFractions (≥ℤ-of-test (d .1))) (lies .from)) (lies .to) .not-below
 
   module _ (table ranges : List ℤ) (room : rowWidth * count ≤ length table) (room-ranges : rangeWidth * count ≤ length ranges)
       (into : WorkedInto c count table (tableAfter rows table) ranges (rangesAfter (answeredRanges c rows) ranges)) where
@@ -242,6 +249,7 @@ module _ (c : Schedule) (pass : Passed c) (x : ℕ → Fraction) (within : Input
           equal-exactly-at-found = iff;
           found-in-unit = λ i h d. in-unit i h;
           divisor-nonzero = divisor-nonzero;
+          root-of-some = root-of-some;
           range-answered = answered;
           in-range = in-range table ranges into;
           same-values = same-values table ranges into;

@@ -15,8 +15,8 @@ use Rattle.affine.specs.Steps.{constantRow, inputRow, checkedWith, endsRange}
 use Rattle.affine.proofs.Lists.{pick-elim}
 use Rattle.affine.proofs.Answers.{answer-row}
 use Rattle.affine.proofs.Form.{UsesOnly}
-use Rattle.affine.proofs.Support.{FreeOf, constant-free, input-free, zip-free, product-free, reciprocal-free}
-use Rattle.affine.proofs.WellFormed.{constant-uses, input-uses, zip-uses, product-uses, reciprocal-uses}
+use Rattle.affine.proofs.Support.{FreeOf, constant-free, input-free, zip-free, product-free, reciprocal-free, root-free}
+use Rattle.affine.proofs.WellFormed.{constant-uses, input-uses, zip-uses, product-uses, reciprocal-uses, root-uses}
 use Rattle.sheet.specs.declared.Schedule.{Schedule}
 use Rattle.sheet.specs.Lines.{natural, endsAt, stepAt}
 use Rattle.evaluation.specs.Work.{rowOf, ownRanges, rowAnswer}
@@ -67,6 +67,7 @@ module _ (c : Schedule) where
         zip = λ f z x y hx hy m l. zip-free m f z x y (hx m l) (hy m l);
         product = λ x y hx hy m l. product-free m (natural (c .squares)) n x y (apart l) (hx m l) (hy m l);
         reciprocal = λ x a hx m l. reciprocal-free m (natural (c .squares)) n x a (apart l) (hx m l);
+        root = λ x least hx m l. root-free m (natural (c .squares)) n x least (apart l) (hx m l);
       })
       (λ n m l. input-free m n (endsAt c n .low) (endsAt c n .high) (apart l))
       (λ i n r l h m k. h m (omega arith))
@@ -81,6 +82,7 @@ module _ (c : Schedule) where
         zip = zip-uses squares;
         product = λ x y hx hy. product-uses squares n x y;
         reciprocal = λ x a hx. reciprocal-uses squares n x a;
+        root = λ x least hx. root-uses squares n x least hx;
       })
       (λ n. input-uses squares n (endsAt c n .low) (endsAt c n .high))
       (λ i n r l h. h)

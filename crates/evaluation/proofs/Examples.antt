@@ -1,4 +1,4 @@
--- "Proved examples" P1 to P13 (manual, section 5.11), over the definitions that the contracts cite: cases as data, and one test that the checker
+-- "Proved examples" P1 to P13, and R1 to R7 of roots (manual, section 5.13), over the definitions that the contracts cite: cases as data, and one test that the checker
 -- evaluates.
 use mathlib.Core.Path.{_≡_, refl}
 use mathlib.Core.List.{List, [], _∷_, _++_, map}
@@ -14,7 +14,9 @@ use Rattle.affine.specs.PairOrder.{overPairs, firsts, seconds}
 use Rattle.affine.specs.Row.{span, low, high, pairBelow, pairAbove, pairsBelow, pairsAbove, radius}
 use Rattle.affine.specs.Steps.{endsRange}
 use Rattle.affine.specs.Product.{linearTotals, pairTotals, squaredRadius, dropped, productOwn, productRow}
+use Rattle.integer.specs.Root.{rootIn, root}
 use Rattle.affine.specs.Reciprocal.{candidateLinear, candidatePair, errorBound, reciprocalOwn, reciprocalRow}
+use Rattle.affine.specs.Root.{unitRoot, linearMisses, pairMisses, squareError, rootOwn, rootRow}
 use Rattle.sheet.specs.declared.Schedule.{Schedule}
 use Rattle.sheet.specs.declared.Step.{Step}
 use Rattle.sheet.specs.declared.End.{End}
@@ -23,7 +25,7 @@ use Rattle.sheet.specs.Tests.{countsPass, endsPass, stepPasses, fault}
 use Rattle.sheet.specs.Limits.{maxInputs, maxSteps}
 use Rattle.sheet.specs.Writing.{faultAt, testLines, testOf}
 use Rattle.evaluation.specs.Table.{rowWidth, rangeWidth}
-use Rattle.evaluation.specs.Work.{Worked, rowCount, rowOf, ownRanges, answeredRanges, binaryAnswer, stepAnswer, rowAnswer, withAnswer, worked, evaluated}
+use Rattle.evaluation.specs.Work.{Worked, rowCount, rowOf, ownRanges, answeredRanges, binaryAnswer, unaryAnswer, stepAnswer, rowAnswer, withAnswer, worked, evaluated}
 use Rattle.evaluation.specs.Values.{ownOf}
 
 abbrev minus : ℕ → ℤ
@@ -79,6 +81,10 @@ still = ended (pos 0) (pos 0)
 reciprocalOf : ℤ → Schedule
 reciprocalOf v = schedule 0 still (step 1 0 0 v ∷ step 5 2 0 (pos 0) ∷ [])
 
+-- the same of a root
+rootOf : ℤ → Schedule
+rootOf v = schedule 0 still (step 1 0 0 v ∷ step 6 2 0 (pos 0) ∷ [])
+
 productOf : ℤ → ℤ → Schedule
 productOf v w = schedule 0 still (step 1 0 0 v ∷ step 1 0 0 w ∷ step 4 2 3 (pos 0) ∷ [])
 
@@ -91,6 +97,12 @@ square squares e = schedule squares e (step 4 1 1 (pos 0) ∷ [])
 
 inverse : ℕ → End → Schedule
 inverse squares e = schedule squares e (step 5 1 0 (pos 0) ∷ [])
+
+rooted : ℕ → End → Schedule
+rooted squares e = schedule squares e (step 6 1 0 (pos 0) ∷ [])
+
+rootOfSquare : End → Schedule
+rootOfSquare e = schedule 1 e (step 4 1 1 (pos 0) ∷ step 6 2 0 (pos 0) ∷ [])
 
 wide : End
 wide = ended (pos 4096) (pos 8192)
@@ -112,8 +124,15 @@ cases =
     ∷ case (inverse 0 (ended (pos 1) (pos 3))) 1 (pos 0 ∷ pos 0 ∷ pos 8388608 ∷ minus 4194304 ∷ pos 0 ∷ pos 4194304 ∷ pos 0 ∷ pos 16777216 ∷ [])
     ∷ case (productOf (pos 268435456) (pos 16384)) 3 (pos 0 ∷ pos 0 ∷ pos 1073741824 ∷ pos 0 ∷ pos 0 ∷ pos 0 ∷ pos 1073741824 ∷ pos 1073741824 ∷ [])
     ∷ case (productOf (pos 268435456) (pos 16385)) 3 (pos 6 ∷ pos 4 ∷ [])
+    ∷ case (rootOf (pos 4096)) 2 (pos 0 ∷ pos 0 ∷ pos 4096 ∷ pos 0 ∷ pos 0 ∷ pos 1 ∷ pos 4095 ∷ pos 4097 ∷ [])
+    ∷ case (rootOf (pos 2)) 2 (pos 0 ∷ pos 0 ∷ pos 90 ∷ pos 0 ∷ pos 0 ∷ pos 3 ∷ pos 87 ∷ pos 93 ∷ [])
+    ∷ case (rooted 1 wide) 1 (pos 0 ∷ pos 0 ∷ pos 5016 ∷ pos 836 ∷ pos 0 ∷ pos 174 ∷ pos 4006 ∷ pos 6026 ∷ [])
+    ∷ case (rooted 0 wide) 1 (pos 0 ∷ pos 0 ∷ pos 5016 ∷ pos 836 ∷ pos 0 ∷ pos 174 ∷ pos 4006 ∷ pos 6026 ∷ [])
+    ∷ case (rooted 0 (ended (pos 0) (pos 5))) 1 (pos 12 ∷ pos 2 ∷ [])
+    ∷ case (rooted 0 (ended (pos 1) (pos 3))) 1 (pos 0 ∷ pos 0 ∷ pos 90 ∷ pos 22 ∷ pos 0 ∷ pos 13 ∷ pos 55 ∷ pos 125 ∷ [])
+    ∷ case (rootOfSquare wide) 2 (pos 0 ∷ pos 0 ∷ pos 6144 ∷ pos 2048 ∷ pos 341 ∷ pos 1609 ∷ pos 2487 ∷ pos 10142 ∷ [])
     ∷ []
 
 examples-hold : map (λ k. shown (k .of) (k .row)) cases ≡ map (λ k. k .is) cases
-unfolding cases case still reciprocalOf productOf alone square inverse wide ended step schedule evaluation rangeShown rowShown shown evaluated worked withAnswer ownRanges rowAnswer stepAnswer binaryAnswer testOf testLines faultAt lineOf numbers fault countsPass endsPass stepPasses floorQuotient floorRemainder low high tabulate overPairs firsts seconds pairBelow pairAbove pairsBelow pairsAbove sum span linearTotals pairTotals radius squaredRadius dropped productOwn productRow candidateLinear candidatePair errorBound reciprocalOwn reciprocalRow
+unfolding cases case still reciprocalOf rootOf productOf alone square inverse rooted rootOfSquare wide ended step schedule evaluation rangeShown rowShown shown evaluated worked withAnswer ownRanges rowAnswer stepAnswer binaryAnswer unaryAnswer testOf testLines faultAt lineOf numbers fault countsPass endsPass stepPasses floorQuotient floorRemainder low high tabulate overPairs firsts seconds pairBelow pairAbove pairsBelow pairsAbove sum span linearTotals pairTotals radius squaredRadius dropped productOwn productRow candidateLinear candidatePair errorBound reciprocalOwn reciprocalRow root rootIn unitRoot linearMisses pairMisses squareError rootOwn rootRow
 examples-hold = refl

@@ -22,4 +22,5 @@ pub mod RefusalRow
 pub mod FractionUnits
 pub mod RowEnclosure
 pub mod Demand3
+pub mod RootStarts
 pub mod Examples

@@ -15,6 +15,7 @@ use Rattle.affine.specs.Row.{formRange}
 use Rattle.affine.specs.Steps.{constantRow, inputRow, addRows, subtractRows, checked}
 use Rattle.affine.specs.Product.{product, productRow}
 use Rattle.affine.specs.Reciprocal.{reciprocal, reciprocalRow, zeroInRange, distance}
+use Rattle.affine.specs.Root.{rootCandidate, rootRow, belowOne, startsBelowZero, squareRoot}
 use Rattle.affine.proofs.Answers.{checked-accepted}
 use Rattle.sheet.specs.declared.Step.{Step}
 use Rattle.sheet.specs.declared.Schedule.{Schedule}
@@ -22,14 +23,14 @@ use Rattle.sheet.specs.Lines.{natural, endsAt, stepAt}
 use Rattle.sheet.specs.Limits.{lastBinary, lastCode}
 use Rattle.sheet.proofs.Passing.{Natural, StepPassed}
 use Rattle.sheet.proofs.Passed.{Passed}
-use Rattle.evaluation.specs.Work.{rowCount, ownRange, ownRanges, namedRow, namedRange, binaryAnswer, stepAnswer, rowAnswer}
-use Rattle.evaluation.specs.Values.{inUnits, namedValue, exactStep, exactValues, exactValue}
+use Rattle.evaluation.specs.Work.{rowCount, ownRange, ownRanges, namedRow, namedRange, binaryAnswer, unaryAnswer, stepAnswer, rowAnswer}
+use Rattle.evaluation.specs.Values.{inUnits, namedValue, exactRoot, exactStep, exactValues, exactValue}
 use Rattle.evaluation.proofs.Sequence.{length-grown, getD-grown}
 use Rattle.evaluation.proofs.ExactRows.{named-value, input-value, step-value}
 use Rattle.evaluation.proofs.Induction.{lt-or-ge}
 use Rattle.evaluation.proofs.RowLines.{rowAnswer-input, rowAnswer-step, step-of-row}
 use Rattle.evaluation.proofs.OwnRanges.{noRange, own-at}
-use Rattle.evaluation.proofs.WorkLaws.{nextRow, rowsUpTo, Went, Inverted, reciprocal-accepted}
+use Rattle.evaluation.proofs.WorkLaws.{nextRow, rowsUpTo, Went, Inverted, reciprocal-accepted, Rooted, root-accepted}
 
 -- ---- the code of a step
 data Code : ℕ → Type 0 where
@@ -38,6 +39,7 @@ data Code : ℕ → Type 0 where
   is-3 : Code 3
   is-4 : Code 4
   is-5 : Code 5
+  is-6 : Code 6
 
 code-of : (k : ℕ) → 1 ≤ k → k ≤ lastCode → Code k
 code-of zero l h = absurd (omega arith)
@@ -46,7 +48,8 @@ code-of (suc (suc zero)) l h = is-2
 code-of (suc (suc (suc zero))) l h = is-3
 code-of (suc (suc (suc (suc zero)))) l h = is-4
 code-of (suc (suc (suc (suc (suc zero))))) l h = is-5
-code-of (suc (suc (suc (suc (suc (suc k)))))) l h = absurd (omega arith)
+code-of (suc (suc (suc (suc (suc (suc zero)))))) l h = is-6
+code-of (suc (suc (suc (suc (suc (suc (suc k))))))) l h = absurd (omega arith)
 
 module _ (c : Schedule) (passed : Passed c) (x : ℕ → Fraction) where
   -- the row with index n, its own range and its exact value
@@ -70,6 +73,8 @@ module _ (c : Schedule) (passed : Passed c) (x : ℕ → Fraction) where
     is-product : natural (c .inputs) ≤ n → (i j : ℕ) → i < n → j < n → row n ≡ productRow squares n (row i) (row j) → value n ≡ value i *ℚ value j → Made n
     is-reciprocal : natural (c .inputs) ≤ n → (i : ℕ) → i < n → zeroInRange (range i) ≡ false → row n ≡ reciprocalRow squares n (row i) (distance (range i))
         → value n ≡ reciprocalOf (value i) → Made n
+    is-root : natural (c .inputs) ≤ n → (i : ℕ) → i < n → belowOne (range i) ≡ false → startsBelowZero (rootCandidate (row i)) ≡ false
+        → row n ≡ rootRow squares n (row i) (range i .low) → value n ≡ exactRoot (value i) → Made n
 
   -- a row that is named is the row of that number
   named-row : (n : ℕ) (z : ℤ) → Natural 1 n z → namedRow (rowsUpTo c n) z ≡ row (natural z - 1)
@@ -100,19 +105,34 @@ module _ (c : Schedule) (passed : Passed c) (x : ℕ → Fraction) where
     values = exactValues c x n
 
     -- a reciprocal that was accepted
-    reciprocal-made : natural (t .code) ≡ lastCode → stepAnswer squares rows (ownRanges c rows) t ≡ reciprocal squares (length rows) (namedRow rows (t .first)) (namedRange (ownRanges c rows) (t .first))
-    unfolding stepAnswer
+    reciprocal-made : natural (t .code) ≡ 5 → stepAnswer squares rows (ownRanges c rows) t ≡ reciprocal squares (length rows) (namedRow rows (t .first)) (namedRange (ownRanges c rows) (t .first))
+    unfolding stepAnswer unaryAnswer
     reciprocal-made e = rw e
 
-    inverted : natural (t .code) ≡ lastCode → Inverted squares (length rows) (namedRow rows (t .first)) (namedRange (ownRanges c rows) (t .first))
+    inverted : natural (t .code) ≡ 5 → Inverted squares (length rows) (namedRow rows (t .first)) (namedRange (ownRanges c rows) (t .first))
     unfolding rows
     inverted e =
         reciprocal-accepted squares (length (rowsUpTo c n)) (namedRow (rowsUpTo c n) (t .first)) (namedRange (ownRanges c (rowsUpTo c n)) (t .first))
         (rw (reciprocal-made e) at status)
 
-    divisor-apart : natural (t .code) ≡ lastCode → zeroInRange (range (natural (t .first) - 1)) ≡ false
+    divisor-apart : natural (t .code) ≡ 5 → zeroInRange (range (natural (t .first) - 1)) ≡ false
     unfolding rows
     divisor-apart e = ap zeroInRange (sym (named-range n (t .first) (first-named (omega (arith, e))))) ∙ inverted e .apart
+
+    -- a root that was accepted
+    root-made : natural (t .code) ≡ 6 → stepAnswer squares rows (ownRanges c rows) t ≡ squareRoot squares (length rows) (namedRow rows (t .first)) (namedRange (ownRanges c rows) (t .first))
+    unfolding stepAnswer unaryAnswer
+    root-made e = rw e
+
+    rooted : natural (t .code) ≡ 6 → Rooted squares (length rows) (namedRow rows (t .first)) (namedRange (ownRanges c rows) (t .first))
+    unfolding rows
+    rooted e =
+        root-accepted squares (length (rowsUpTo c n)) (namedRow (rowsUpTo c n) (t .first)) (namedRange (ownRanges c (rowsUpTo c n)) (t .first))
+        (rw (root-made e) at status)
+
+    radicand-some : natural (t .code) ≡ 6 → belowOne (range (natural (t .first) - 1)) ≡ false
+    unfolding rows
+    radicand-some e = ap belowOne (sym (named-range n (t .first) (first-named (omega (arith, e))))) ∙ rooted e .some
 
     by-code : (k : ℕ) → natural (t .code) ≡ k → Code k → Made n
     unfolding stepAnswer binaryAnswer exactStep rows values
@@ -155,6 +175,16 @@ module _ (c : Schedule) (passed : Passed c) (x : ℕ → Fraction) where
         ∙ ap (λ m. reciprocalRow squares m (namedRow rows (t .first)) (distance (namedRange (ownRanges c rows) (t .first)))) (length-grown (nextRow c) n)
         ∙ ap₂ (λ r a. reciprocalRow squares n r (distance a)) (named-row n (t .first) p) (named-range n (t .first) p))
         (value-is ∙ exact ∙ ap reciprocalOf (named-value c x n (t .first) p))
+    by-code k e is-6 =
+        let p = first-named (omega (arith, e)) in
+        let exact : exactStep values t ≡ exactRoot (namedValue values (t .first)) = rw e in
+        let w = rooted e in
+        is-root late (natural (t .first) - 1) (named-before n (t .first) p) (radicand-some e)
+        (ap (λ r. startsBelowZero (rootCandidate r)) (sym (named-row n (t .first) p)) ∙ w .starts)
+        (row-is ∙ ap (λ a. a .row) (root-made e) ∙ w .row
+        ∙ ap (λ m. rootRow squares m (namedRow rows (t .first)) (namedRange (ownRanges c rows) (t .first) .low)) (length-grown (nextRow c) n)
+        ∙ ap₂ (λ r (a : Range). rootRow squares n r (a .low)) (named-row n (t .first) p) (named-range n (t .first) p))
+        (value-is ∙ exact ∙ ap exactRoot (named-value c x n (t .first) p))
 
   -- the line of a row, and what is known of a step's
   module _ (went : Went c (rowCount c)) (n : ℕ) (h : n < rowCount c) where
@@ -179,10 +209,16 @@ module _ (c : Schedule) (passed : Passed c) (x : ℕ → Fraction) where
           by-code n l t step-passed status (ap (λ a. a .row) answer) (step-value c x n l)
           (natural (t .code)) refl (code-of (natural (t .code)) (step-passed .code-in .from) (step-passed .code-in .to))
 
-      divided : natural (t .code) ≡ lastCode → (natural (t .first) - 1 < n) × (zeroInRange (range (natural (t .first) - 1)) ≡ false)
+      divided : natural (t .code) ≡ 5 → (natural (t .first) - 1 < n) × (zeroInRange (range (natural (t .first) - 1)) ≡ false)
       divided e = (
         named-before n (t .first) (step-passed .first-row (omega (arith, e))),
         divisor-apart n l t step-passed status (ap (λ a. a .row) answer) (step-value c x n l) e,
+      )
+
+      taken : natural (t .code) ≡ 6 → (natural (t .first) - 1 < n) × (belowOne (range (natural (t .first) - 1)) ≡ false)
+      taken e = (
+        named-before n (t .first) (step-passed .first-row (omega (arith, e))),
+        radicand-some n l t step-passed status (ap (λ a. a .row) answer) (step-value c x n l) e,
       )
 
     pub made : Made n
@@ -194,11 +230,23 @@ module _ (c : Schedule) (passed : Passed c) (x : ℕ → Fraction) where
             is-input l (ap (λ a. a .row) (e ∙ checked-accepted _ _ (rw e at (went .each n h)))) (input-value c x n l)
         by-line (inr l) = made-by-step l
 
+  -- the row that step j names, an earlier one of whose range a test said no
+  module _ (P : Range → Type 0) (went : Went c (rowCount c)) (j k : ℕ) (h : j < natural (c .steps)) (e : natural (stepAt c j .code) ≡ k)
+      (of-row : (n : ℕ) (h : n < rowCount c) (l : natural (c .inputs) ≤ n) → let t = stepAt c (n - natural (c .inputs)) in
+      natural (t .code) ≡ k → (natural (t .first) - 1 < n) × P (range (natural (t .first) - 1))) where
+    named-by : (natural (stepAt c j .first) - 1 < rowCount c) × P (range (natural (stepAt c j .first) - 1))
+    named-by =
+        let n = natural (c .inputs) + j in
+        let m : n - natural (c .inputs) ≡ j = omega arith in
+        let d = of-row n (omega arith) (omega arith) (ap (λ i. natural (stepAt c i .code)) m ∙ e) in
+        (subst (λ i. natural (stepAt c i .first) - 1 < rowCount c) m (omega (arith, d .0)), subst (λ i. P (range (natural (stepAt c i .first) - 1))) m (d .1))
+
   -- "An exact divisor is the exact value of the row that a reciprocal names": an earlier row, whose own range does not hold 0
-  pub divisor-of : Went c (rowCount c) → (j : ℕ) → j < natural (c .steps) → natural (stepAt c j .code) ≡ lastCode
+  pub divisor-of : Went c (rowCount c) → (j : ℕ) → j < natural (c .steps) → natural (stepAt c j .code) ≡ 5
       → (natural (stepAt c j .first) - 1 < rowCount c) × (zeroInRange (range (natural (stepAt c j .first) - 1)) ≡ false)
-  divisor-of went j h e =
-      let n = natural (c .inputs) + j in
-      let m : n - natural (c .inputs) ≡ j = omega arith in
-      let d = divided went n (omega arith) (omega arith) (ap (λ k. natural (stepAt c k .code)) m ∙ e) in
-      (subst (λ k. natural (stepAt c k .first) - 1 < rowCount c) m (omega (arith, d .0)), subst (λ k. zeroInRange (range (natural (stepAt c k .first) - 1)) ≡ false) m (d .1))
+  divisor-of went j h e = named-by (λ a. zeroInRange a ≡ false) went j 5 h e (divided went)
+
+  -- the row that a root names: an earlier row, whose own range is not below 1
+  pub radicand-of : Went c (rowCount c) → (j : ℕ) → j < natural (c .steps) → natural (stepAt c j .code) ≡ 6
+      → (natural (stepAt c j .first) - 1 < rowCount c) × (belowOne (range (natural (stepAt c j .first) - 1)) ≡ false)
+  radicand-of went j h e = named-by (λ a. belowOne a ≡ false) went j 6 h e (taken went)

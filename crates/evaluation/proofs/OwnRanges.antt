@@ -1,5 +1,5 @@
 -- The own ranges of rows: an input's ends, or the range of the form. They grow with the rows, each is what its row's answer tells, low is not above
--- high, neither is beyond the span limit, and where one does not hold 0 the row's centre outweighs its linear coefficients.
+-- high, neither is beyond the span limit, the centre is not below low, and where one does not hold 0 the row's centre outweighs its linear coefficients.
 use mathlib.Core.Path.{_≡_, refl, sym, ap, ap₂, _∙_, subst}
 use mathlib.Core.Logic.{_⊎_, inl, inr}
 use mathlib.Core.List.{List, [], _∷_, _++_}
@@ -17,12 +17,12 @@ use Rattle.affine.specs.declared.Status.the-variants.{Accepted}
 use Rattle.affine.specs.Limits.{spanLimit}
 use Rattle.affine.specs.Row.{formRange}
 use Rattle.affine.specs.Steps.{constantRow, inputRow, endsRange}
-use Rattle.affine.specs.Reciprocal.{ApartOutweighs}
+use Rattle.affine.specs.Root.{Centred}
 use Rattle.affine.proofs.Lists.{pick-elim, length-tabulate, getD-tabulate}
 use Rattle.affine.proofs.Answers.{checked-accepted}
 use Rattle.affine.proofs.RangeSize.{low-not-above-high, low-within, high-within}
-use Rattle.affine.proofs.InputRow.{input-outweighs}
-use Rattle.affine.proofs.Distance.{form-outweighs}
+use Rattle.affine.proofs.InputRow.{input-centred}
+use Rattle.affine.proofs.Distance.{form-centred}
 use Rattle.sheet.specs.declared.Schedule.{Schedule}
 use Rattle.sheet.specs.Lines.{natural, endsAt}
 use Rattle.sheet.proofs.Passed.{Passed}
@@ -90,8 +90,8 @@ module _ (c : Schedule) where
       abbrev r : Row
       r = rowAnswer c rows .row
 
-      pub own-outweighs : ApartOutweighs (ownRange c (length rows) r) r
-      own-outweighs = own-cases (λ z. ApartOutweighs z r) (length rows) r of-input (λ l. form-outweighs r)
+      pub own-centred : Centred (ownRange c (length rows) r) r
+      own-centred = own-cases (λ z. Centred z r) (length rows) r of-input (λ l. form-centred r)
         where
           low : ℤ
           low = endsAt c (length rows) .low
@@ -99,11 +99,11 @@ module _ (c : Schedule) where
           high : ℤ
           high = endsAt c (length rows) .high
 
-          of-input : length rows < natural (c .inputs) → ApartOutweighs (endsRange low high) r
+          of-input : length rows < natural (c .inputs) → Centred (endsRange low high) r
           of-input l =
               let e = rowAnswer-input c rows (length rows) refl l in
               let is-input : r ≡ inputRow (length rows) low high = ap (λ a. a .row) (e ∙ checked-accepted _ _ (rw e at h)) in
-              subst (ApartOutweighs (endsRange low high)) (sym is-input) (input-outweighs (length rows) low high (ends-ordered c passed (length rows) l))
+              subst (Centred (endsRange low high)) (sym is-input) (input-centred (length rows) low high (ends-ordered c passed (length rows) l))
 
   -- ---- low is not above high
   pub own-ordered : Passed c → (i : ℕ) (r : Row) → ownRange c i r .low ≤ℤ ownRange c i r .high

@@ -9,20 +9,21 @@ use lib.ListN.{length, length-append}
 use Rattle.affine.specs.declared.Row.{Row}
 use Rattle.affine.specs.declared.Answer.{Answer}
 use Rattle.affine.specs.declared.Status.{Status}
-use Rattle.affine.specs.declared.Status.the-variants.{Accepted, SpanPassed, ZeroInRange}
+use Rattle.affine.specs.declared.Status.the-variants.{Accepted, SpanPassed, ZeroInRange, NoRoot}
 use Rattle.affine.specs.Steps.{number}
 use Rattle.affine.proofs.Lists.{pick-elim}
 use Rattle.sheet.specs.declared.Schedule.{Schedule}
 use Rattle.sheet.specs.Writing.{testOf}
 use Rattle.sheet.proofs.Passed.{passed}
-use Rattle.sheet.proofs.RefusalSize.{Small, lastPlace, test-small}
+use Rattle.sheet.proofs.RefusalSize.{Small, lastCause, lastPlace, test-small}
 use Rattle.evaluation.specs.Work.{Worked, rowCount, rowAnswer, withAnswer, worked, tablesHold, evaluated}
 use Rattle.evaluation.proofs.RowLines.{rows-few}
 
-status-small : (s : Status) → number s ≤ 8
+status-small : (s : Status) → number s ≤ lastCause
 status-small Accepted = omega arith
 status-small SpanPassed = omega arith
 status-small ZeroInRange = omega arith
+status-small NoRoot = omega arith
 
 -- so many rows at the most, and a refusal at one of them
 record WorkedSmall (n : ℕ) (w : Worked) : Type 0 where

@@ -3,15 +3,19 @@ use mathlib.Core.Path.{_≡_, sym, subst}
 use mathlib.Core.Logic.{_≢_}
 use mathlib.Core.Bool.{false}
 use mathlib.Core.List.{[], _∷_}
-use Prim.Native.Nat.{ℕ, _<_}
+use Prim.Native.Nat.{ℕ, _*_, _<_}
 use native.Mathlib.Omega.{arith}
-use lib.IntN.{pos, negsuc}
+use lib.IntN.{pos, negsuc, _*ℤ_}
+use lib.Signed.{_≤ℤ_}
 use Rattle.integer.specs.Fraction.{Fraction, _≈_, _≤ℚ_, _-ℚ_, _*ℚ_, negℚ, whole, reciprocal}
-use Rattle.integer.proofs.Certificate.{certify, hyp, eqn, _⊞_, _≼_, _≋_, _⊢_}
+use Rattle.integer.specs.Root.{floorRoot}
+use Rattle.integer.proofs.Certificate.{certify, hyp, eqn, _⊞_, _⊠_, _≼_, _≋_, _⊢_}
 use Rattle.integer.proofs.Ring.{con, _⊕_, _⊖_, _⊗_, neg, _≐_, ring}
 use Rattle.integer.proofs.Order.{pos-≤ℤ}
-use Rattle.integer.proofs.Fraction.{ringOfFractions, orderedFractions, ≈-refl, ≈-sym, ≈-trans, +ℚ-cong, *ℚ-cong, ≤ℚ-of-not-below, times-reciprocal, ≈-zero-of-upper}
-use Rattle.integer.proofs.Bound.{Bound, le-cong, whole-le, whole-nonneg}
+use Rattle.integer.proofs.Fraction.{ringOfFractions, orderedFractions, ≈-refl, ≈-sym, ≈-trans, +ℚ-cong, *ℚ-cong, ≤ℚ-of-not-below, ≤ℚ-of-<ℚ, whole-*ℚ, times-reciprocal, ≈-zero-of-upper}
+use Rattle.integer.proofs.Bound.{Bound, bound-cong, le-cong, le-trans, whole-le, whole-nonneg}
+use Rattle.integer.proofs.Machine.{≥ℤ-of-test}
+use Rattle.integer.proofs.RootLaws.{is-floor-root, floor-root-greatest}
 use Rattle.affine.specs.declared.Row.{Row}
 use Rattle.affine.specs.declared.Range.{Range}
 use Rattle.affine.specs.Limits.{symbols, unit, unitSquared}
@@ -20,22 +24,26 @@ use Rattle.affine.specs.Row.{formRange}
 use Rattle.affine.specs.Steps.{inputRow, endsRange}
 use Rattle.affine.specs.Product.{productRow}
 use Rattle.affine.specs.Reciprocal.{zeroInRange, distance, reciprocalRow}
+use Rattle.affine.specs.Root.{unitRoot, rootRow}
 use Rattle.affine.proofs.Form.{Shaped, units}
 use Rattle.affine.proofs.FormBounds.{Unit-symbols}
 use Rattle.affine.proofs.StepLaws.{constant-exact, add-exact, subtract-exact, input-encloses}
 use Rattle.affine.proofs.Distance.{distance-is-end}
 use Rattle.affine.proofs.RangeLaws.{low-holds-value, high-holds-value}
 use Rattle.affine.proofs.Enclosure.{product-encloses, reciprocal-encloses, Apart, apart-square, value-apart}
-use Rattle.affine.proofs.WellFormed.{input-own, product-own, reciprocal-own}
+use Rattle.affine.proofs.RootCandidate.{unit-root-some, unit-root-not-above}
+use Rattle.affine.proofs.RootEnclosure.{root-encloses}
+use Rattle.affine.proofs.WellFormed.{input-own, product-own, reciprocal-own, root-own}
 use Rattle.sheet.specs.declared.Schedule.{Schedule}
 use Rattle.sheet.specs.Lines.{natural, endsAt}
 use Rattle.sheet.proofs.Passed.{Passed}
 use Rattle.evaluation.specs.Work.{rowCount}
+use Rattle.evaluation.specs.Values.{exactRoot}
 use Rattle.evaluation.specs.Demand3.{InputsWithin}
 use Rattle.evaluation.proofs.ExactRows.{input-value}
 use Rattle.evaluation.proofs.OwnRanges.{own-cases}
 use Rattle.evaluation.proofs.WorkLaws.{rowsUpTo, Went}
-use Rattle.evaluation.proofs.Made.{Made, is-input, is-constant, is-sum, is-difference, is-product, is-reciprocal, row, range, value, made}
+use Rattle.evaluation.proofs.Made.{Made, is-input, is-constant, is-sum, is-difference, is-product, is-reciprocal, is-root, row, range, value, made}
 use Rattle.evaluation.proofs.RowLines.{rows-few, squares-few}
 use Rattle.evaluation.proofs.EveryRow.{uses-only}
 use Rattle.evaluation.proofs.RowFacts.{own, own-is}
@@ -81,6 +89,14 @@ module _ (c : Schedule) (passed : Passed c) (x : ℕ → Fraction) (within : Inp
   -- the exact value, in units
   abbrev pub X : ℕ → Fraction
   X n = scaled (value c passed x n)
+
+  -- that of which a root is taken: 4096 times the exact value, in units
+  abbrev radicand : ℕ → Fraction
+  radicand n = whole (pos unit) *ℚ X n
+
+  scaled-root : (n : ℕ) → scaled (exactRoot (value c passed x n)) ≈ whole (pos (floorRoot (radicand n)))
+  unfolding exactRoot
+  scaled-root n = scaled-inUnits (pos (floorRoot (radicand n)))
 
   -- the exact value of a row lies in its own range: an input's within its ends, any other where its form has the exact value
   pub in-own : (ε : ℕ → Fraction) → Unit-symbols orderedFractions ε → (i : ℕ) → X i ≈ units ringOfFractions (f i) ε → Lies (X i) (g i)
@@ -172,6 +188,35 @@ module _ (c : Schedule) (passed : Passed c) (x : ℕ → Fraction) (within : Inp
             ≈-trans (*ℚ-cong (≈-refl _) (≈-sym (same i hi)))
             (certify orderedFractions 2 (λ v r. (v ⊗ r ≋ con (pos 1)) ∷ [] ⊢ ((con (pos unit) ⊗ r) ⊗ (con (pos unit) ⊗ v) ≋ con (pos unitSquared))) 0 (eqn (con (pos unitSquared)) 0) tt
             (value c passed x i) (reciprocal (value c passed x i)) (times-reciprocal (value c passed x i) upper-nonzero))
+    by-origin (is-root l i hi a starts e v) =
+        enclosed e v
+        (subst (λ z. Bound orderedFractions (scaled (exactRoot (value c passed x i)) -ℚ units ringOfFractions (rootRow squares n (f i) (g i .low)) ε) (whole z))
+        (sym (root-own squares n (f i) (g i .low) here))
+        (bound-cong orderedFractions (+ℚ-cong (≈-sym (scaled-root i)) (≈-refl _)) (≈-refl _)
+        (root-encloses orderedFractions ε unital squares (squares-few c passed) (f i) (shape i hi) (uses-only c i) starts (g i .low) (unit-root-some some) n off
+        (floorRoot (radicand i)) (floor-root-greatest (radicand i) (unitRoot (g i .low)) nonneg least)
+        (le-cong orderedFractions (≈-refl _) of-form (is-floor-root (radicand i) nonneg .0))
+        (le-cong orderedFractions of-form (≈-refl _) (≤ℚ-of-<ℚ (is-floor-root (radicand i) nonneg .1))))))
+      where
+        some : pos 1 ≤ℤ g i .low
+        some = ≥ℤ-of-test a
+
+        lies : Lies (X i) (g i)
+        lies = in-own ε unital i (same i hi)
+
+        of-form : radicand i ≈ whole (pos unit) *ℚ units ringOfFractions (f i) ε
+        of-form = *ℚ-cong (≈-refl _) (same i hi)
+
+        from-low : whole (pos unit *ℤ g i .low) ≤ℚ radicand i
+        from-low =
+            certify orderedFractions 4 (λ m u l X. (m ≋ u ⊗ l) ∷ (l ≼ X) ∷ (con (pos 0) ≼ u) ∷ [] ⊢ (m ≼ u ⊗ X)) 0 (eqn (con (negsuc 0)) 0 ⊞ hyp 2 ⊠ hyp 1) tt
+            _ (whole (pos unit)) (whole (g i .low)) (X i) (whole-*ℚ (pos unit) (g i .low)) (lies .from) (whole-nonneg orderedFractions unit)
+
+        least : whole (pos (unitRoot (g i .low) * unitRoot (g i .low))) ≤ℚ radicand i
+        least = le-trans orderedFractions (whole-le orderedFractions (unit-root-not-above some)) from-low
+
+        nonneg : whole (pos 0) ≤ℚ radicand i
+        nonneg = le-trans orderedFractions (whole-le orderedFractions (pos-≤ℤ (omega arith))) least
 
     pub row-encloses : Bound orderedFractions (X n -ℚ units ringOfFractions (f n) ε) (whole (pos (own c passed x went n)))
     row-encloses = by-origin (made c passed x went n h)

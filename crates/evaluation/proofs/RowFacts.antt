@@ -15,8 +15,8 @@ use Rattle.affine.specs.Limits.{symbols}
 use Rattle.affine.specs.Lists.{at}
 use Rattle.affine.specs.Steps.{constantRow, addRows, subtractRows}
 use Rattle.affine.specs.Reciprocal.{distance}
-use Rattle.affine.proofs.Support.{FreeOf, NoPairOf, constant-free, input-free, zip-free, product-free, reciprocal-free}
-use Rattle.affine.proofs.WellFormed.{input-own, input-own-nonneg, product-own, reciprocal-own, free-no-pair, input-no-pair, product-no-pair, reciprocal-no-pair}
+use Rattle.affine.proofs.Support.{FreeOf, NoPairOf, constant-free, input-free, zip-free, product-free, reciprocal-free, root-free}
+use Rattle.affine.proofs.WellFormed.{input-own, input-own-nonneg, product-own, reciprocal-own, root-own, free-no-pair, input-no-pair, product-no-pair, reciprocal-no-pair, root-no-pair}
 use Rattle.sheet.specs.declared.Schedule.{Schedule}
 use Rattle.sheet.specs.Lines.{natural, endsAt}
 use Rattle.sheet.proofs.Passed.{Passed}
@@ -25,7 +25,7 @@ use Rattle.evaluation.proofs.Sequence.{complete}
 use Rattle.evaluation.proofs.Induction.{lt-or-ge}
 use Rattle.evaluation.proofs.WorkLaws.{Went}
 use Rattle.evaluation.proofs.EveryRow.{none-later}
-use Rattle.evaluation.proofs.Made.{Made, is-input, is-constant, is-sum, is-difference, is-product, is-reciprocal, row, range, made}
+use Rattle.evaluation.proofs.Made.{Made, is-input, is-constant, is-sum, is-difference, is-product, is-reciprocal, is-root, row, range, made}
 use Rattle.evaluation.proofs.RowLines.{rows-few, ends-ordered}
 
 -- how sums and differences are made, number by number
@@ -78,6 +78,7 @@ module _ (c : Schedule) (passed : Passed c) (x : ℕ → Fraction) (went : Went 
       by-origin (is-difference l i j hi hj e v) = natural-own e (zip-free n less refl (f i) (f j) (none-later c i n hi) (none-later c j n hj) .linear)
       by-origin (is-product l i j hi hj e v) = natural-own e (product-own squares n (f i) (f j) here)
       by-origin (is-reciprocal l i hi a e v) = natural-own e (reciprocal-own squares n (f i) (distance (g i)) here)
+      by-origin (is-root l i hi a s e v) = natural-own e (root-own squares n (f i) (g i .low) here)
 
   pub own-is : (n : ℕ) → n < count → at (f n .linear) n ≡ pos (own n)
   own-is n h = sym (natAbs-of-nonneg (own-nonneg n h))
@@ -93,6 +94,7 @@ module _ (c : Schedule) (passed : Passed c) (x : ℕ → Fraction) (went : Went 
       by-origin (is-difference l i j hi hj e v) = subst (NoPairOf n) (sym e) (free-no-pair n (subtractRows (f i) (f j)) (zip-free n less refl (f i) (f j) (none-later c i n hi) (none-later c j n hj)))
       by-origin (is-product l i j hi hj e v) = subst (NoPairOf n) (sym e) (product-no-pair n squares n (f i) (f j) (none-later c i n hi) (none-later c j n hj))
       by-origin (is-reciprocal l i hi a e v) = subst (NoPairOf n) (sym e) (reciprocal-no-pair n squares n (f i) (distance (g i)) (none-later c i n hi))
+      by-origin (is-root l i hi a s e v) = subst (NoPairOf n) (sym e) (root-no-pair n squares n (f i) (g i .low) (none-later c i n hi))
 
   -- "A symbol whose own coefficient is 0 has coefficient 0 in every row"
   pub owned : (n m : ℕ) → n < count → m < count → own m ≡ 0 → FreeOf m (f n)
@@ -107,6 +109,8 @@ module _ (c : Schedule) (passed : Passed c) (x : ℕ → Fraction) (went : Went 
           subst (FreeOf m) (sym e) (product-free m squares n (f i) (f j) (λ q. apart k (sym q)) (ih i hi (omega arith)) (ih j hj (omega arith)))
       by-origin n k h ih (is-reciprocal l i hi a e v) =
           subst (FreeOf m) (sym e) (reciprocal-free m squares n (f i) (distance (g i)) (λ q. apart k (sym q)) (ih i hi (omega arith)))
+      by-origin n k h ih (is-root l i hi a s e v) =
+          subst (FreeOf m) (sym e) (root-free m squares n (f i) (g i .low) (λ q. apart k (sym q)) (ih i hi (omega arith)))
 
       by-place : (n : ℕ) → n < count → ((i : ℕ) → i < n → i < count → FreeOf m (f i)) → (n < m) ⊎ (m ≤ n) → FreeOf m (f n)
       by-place n h ih (inl l) = none-later c n m l

@@ -5,29 +5,31 @@ use mathlib.Core.List.{List}
 use Prim.Native.Nat.{ℕ, _-_, _≤_}
 use native.Mathlib.Omega.{arith}
 use borrow.Author.Tests.{leb-true}
-use lib.Dec.{eqb, ltb}
+use lib.Dec.{eqb, leb, ltb}
 use lib.IntN.{ℤ, pos, _+ℤ_, _-ℤ_}
 use lib.ListN.{length}
 use Rattle.affine.specs.declared.Row.{Row}
 use Rattle.affine.specs.declared.Range.{Range}
 use Rattle.affine.specs.declared.Answer.{Answer}
 use Rattle.affine.specs.declared.Status.{Status}
-use Rattle.affine.specs.declared.Status.the-variants.{SpanPassed, ZeroInRange}
+use Rattle.affine.specs.declared.Status.the-variants.{SpanPassed, ZeroInRange, NoRoot}
 use Rattle.affine.specs.Limits.{spanLimit}
-use Rattle.affine.specs.Lists.{tabulate, sum}
+use Rattle.affine.specs.Lists.{pick, tabulate, sum}
 use Rattle.affine.specs.PairOrder.{overPairs, firsts, seconds}
 use Rattle.affine.specs.Row.{span, radius, withinSpan, pairBelow, pairAbove, pairsBelow, pairsAbove, low, high, formRange}
 use Rattle.affine.specs.Steps.{constantRow, zipRows, checked, checkedWith, endsRange, inputRow, refused, accepted as acceptedRow}
 use Rattle.affine.specs.Product.{productRow}
 use Rattle.affine.specs.Reciprocal.{zeroInRange, distance, candidate, reciprocalRow, reciprocalApart, reciprocal}
+use Rattle.affine.specs.Root.{rootCandidate, rootRow, belowOne, startsBelowZero, rootFrom, squareRoot}
 use Rattle.affine.proofs.Lists.{pick-elim}
 use Rattle.affine.proofs.Answers.{zeros-radius, answer-radius}
 use Rattle.affine.proofs.Form.{Shaped}
-use Rattle.affine.proofs.WellFormed.{constant-shaped, input-shaped, zip-shaped, product-shaped, reciprocal-shaped}
+use Rattle.affine.proofs.WellFormed.{constant-shaped, input-shaped, zip-shaped, product-shaped, reciprocal-shaped, root-shaped}
 use Rattle.sheet.specs.declared.Step.{Step}
 use Rattle.sheet.specs.declared.Schedule.{Schedule}
 use Rattle.sheet.specs.Lines.{natural, endsAt, stepAt}
-use Rattle.evaluation.specs.Work.{rowOf, ownRanges, namedRow, namedRange, binaryAnswer, stepAnswer, rowAnswer}
+use Rattle.sheet.specs.Limits.{lastBinary}
+use Rattle.evaluation.specs.Work.{rowOf, ownRanges, namedRow, namedRange, binaryAnswer, unaryAnswer, stepAnswer, rowAnswer}
 
 -- ---- how a step makes its row, which owns a symbol: what the row has, K, from what each operand has, J
 pub record Kept (J K : Row → Type 0) (squares own : ℕ) : Type 0 where
@@ -35,6 +37,7 @@ pub record Kept (J K : Row → Type 0) (squares own : ℕ) : Type 0 where
   pub zip : (f : ℤ → ℤ → ℤ) → f (pos 0) (pos 0) ≡ pos 0 → (x y : Row) → J x → J y → K (zipRows f x y)
   pub product : (x y : Row) → J x → J y → K (productRow squares own x y)
   pub reciprocal : (x : Row) (a : ℕ) → J x → K (reciprocalRow squares own x a)
+  pub root : (x : Row) (least : ℤ) → J x → K (rootRow squares own x least)
 
 -- what holds of every checked row of that kind, and of every refusal, holds of a step's answer
 module _ (P : Answer → Type 0) (J K : Row → Type 0) (of-checked : (r : Row) → K r → P (checked r)) (of-refused : (s : Status) → P (refused s)) where
@@ -45,6 +48,20 @@ module _ (P : Answer → Type 0) (J K : Row → Type 0) (of-checked : (r : Row) 
       (λ e. of-refused ZeroInRange)
       (λ e. pick-elim P (withinSpan (candidate squares x)) (checked r) (refused SpanPassed)
       (λ e. of-checked r (kept .reciprocal x (distance range) hx)) (λ e. of-refused SpanPassed))
+
+  of-root : (squares own : ℕ) → Kept J K squares own → (x : Row) (range : Range) → J x → P (squareRoot squares own x range)
+  of-root squares own kept x range hx =
+      let r = rootRow squares own x (range .low) in
+      pick-elim P (belowOne range) (refused NoRoot) (rootFrom squares own x (range .low))
+      (λ e. of-refused NoRoot)
+      (λ e. pick-elim P (withinSpan (rootCandidate x)) (pick (startsBelowZero (rootCandidate x)) (refused NoRoot) (checked r)) (refused SpanPassed)
+      (λ e. pick-elim P (startsBelowZero (rootCandidate x)) (refused NoRoot) (checked r) (λ e. of-refused NoRoot) (λ e. of-checked r (kept .root x (range .low) hx)))
+      (λ e. of-refused SpanPassed))
+
+  of-unary : (squares own : ℕ) → Kept J K squares own → (code : ℤ) (x : Row) (range : Range) → J x → P (unaryAnswer squares own code x range)
+  unfolding unaryAnswer
+  of-unary squares own kept code x range hx =
+      pick-elim P (eqb (natural code) 5) _ _ (λ e. of-reciprocal squares own kept x range hx) (λ e. of-root squares own kept x range hx)
 
   of-binary : (squares own : ℕ) → Kept J K squares own → (code : ℤ) (x y : Row) → J x → J y → P (binaryAnswer squares own code x y)
   unfolding binaryAnswer
@@ -61,9 +78,9 @@ module _ (P : Answer → Type 0) (J K : Row → Type 0) (of-checked : (r : Row) 
       let second = operand (natural (t .second) - 1) in
       pick-elim P (eqb (natural (t .code)) 1) _ _
       (λ e. of-checked _ (kept .constant (t .value)))
-      (λ e. pick-elim P (eqb (natural (t .code)) 5) _ _
-      (λ e. of-reciprocal squares (length rows) kept (namedRow rows (t .first)) (namedRange ranges (t .first)) first)
-      (λ e. of-binary squares (length rows) kept (t .code) (namedRow rows (t .first)) (namedRow rows (t .second)) first second))
+      (λ e. pick-elim P (leb (natural (t .code)) lastBinary) _ _
+      (λ e. of-binary squares (length rows) kept (t .code) (namedRow rows (t .first)) (namedRow rows (t .second)) first second)
+      (λ e. of-unary squares (length rows) kept (t .code) (namedRow rows (t .first)) (namedRange ranges (t .first)) first))
 
 -- every row that a step makes has a row's numbers, whatever its operands are
 abbrev Any : Row → Type 0
@@ -76,6 +93,7 @@ shaped squares own =
       zip = λ f z x y hx hy. zip-shaped f x y;
       product = λ x y hx hy. product-shaped squares own x y;
       reciprocal = λ x a hx. reciprocal-shaped squares own x a;
+      root = λ x least hx. root-shaped squares own x least;
     }
 
 -- ---- the row of any answer

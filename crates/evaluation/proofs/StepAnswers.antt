@@ -4,7 +4,7 @@ use mathlib.Core.Path.{_≡_, sym, ap, ap₂, _∙_, subst}
 use mathlib.Core.List.{List}
 use Prim.Native.Nat.{ℕ, _+_, _*_, _-_, _≤_, _<_}
 use native.Mathlib.Omega.{arith}
-use borrow.Author.Tests.{ne-eqb}
+use borrow.Author.Tests.{ne-eqb, le-leb, lt-leb}
 use lib.IntN.{ℤ, pos}
 use lib.ListN.{length, getD}
 use Rattle.affine.specs.declared.Row.{Row}
@@ -14,15 +14,15 @@ use Rattle.affine.specs.Limits.{spanLimit}
 use Rattle.affine.specs.Lists.{at}
 use Rattle.affine.specs.Row.{span, radius, NoneFrom}
 use Rattle.affine.specs.Steps.{constantRow, checked, inputAnswer}
-use Rattle.affine.specs.Reciprocal.{reciprocal, ApartOutweighs}
 use Rattle.affine.proofs.Lists.{length-tabulate, getD-tabulate}
+use Rattle.affine.specs.Root.{Centred}
 use Rattle.sheet.specs.declared.Step.{Step}
 use Rattle.sheet.specs.declared.Schedule.{Schedule}
 use Rattle.sheet.specs.Lines.{natural, endsAt, stepAt}
-use Rattle.sheet.specs.Limits.{lastCode}
+use Rattle.sheet.specs.Limits.{lastBinary}
 use Rattle.sheet.proofs.Passing.{Natural}
 use Rattle.evaluation.specs.Table.{rowWidth, rangeWidth, rowAt, rangeAt, rowsIn, rangesIn, RowsWithin, Operands, RangesOf}
-use Rattle.evaluation.specs.Work.{ownRanges, namedRow, namedRange, binaryAnswer, stepAnswer, rowAnswer}
+use Rattle.evaluation.specs.Work.{ownRanges, namedRow, namedRange, binaryAnswer, unaryAnswer, stepAnswer, rowAnswer}
 use Rattle.evaluation.proofs.RowLines.{rowAnswer-input, rowAnswer-step}
 use Rattle.evaluation.proofs.OwnRanges.{noRange}
 
@@ -40,9 +40,6 @@ namedRange-rangesIn ranges n z h = getD-tabulate n (rangeAt ranges) noRange (nat
 
 -- a row read from the first n of a table
 module _ {table : List ℤ} {n k : ℕ} (within : RowsWithin table n) (earlier : k < n) where
-  pub read-room : rowWidth * k + rowWidth ≤ length table
-  read-room = omega (arith, within .room, earlier)
-
   pub read-span : {x : Row} → x ≡ rowAt table k → span x ≤ spanLimit
   read-span read = subst (λ r. span r ≤ spanLimit) (sym read) (within .spans k earlier)
 
@@ -57,13 +54,10 @@ module _ {table : List ℤ} {radii : List ℕ} {n k : ℕ} (operands : Operands 
   pub read-none : {x : Row} → x ≡ rowAt table k → NoneFrom n (x .linear)
   read-none read m l = subst (λ r. at (r .linear) m ≡ pos 0) (sym read) (operands .none-later k earlier m (omega (arith, earlier, l)))
 
--- a range read from the first n of the second
-pub read-range-room : {table ranges : List ℤ} {n k : ℕ} → RangesOf table ranges n → k < n → rangeWidth * k + rangeWidth ≤ length ranges
-read-range-room of earlier = omega (arith, of .room, earlier)
-
-pub read-apart : {table ranges : List ℤ} {n k : ℕ} → RangesOf table ranges n → k < n → {x : Row} {range : Range} → x ≡ rowAt table k → range ≡ rangeAt ranges k → ApartOutweighs range x
-read-apart {table} {ranges} {n} {k} of earlier {x} {range} row-read range-read =
-    subst (λ r. ApartOutweighs range r) (sym row-read) (subst (λ r. ApartOutweighs r (rowAt table k)) (sym range-read) (of .apart k earlier))
+-- a range read from the first n of the second, with its row
+pub read-centred : {table ranges : List ℤ} {n k : ℕ} → RangesOf table ranges n → k < n → {x : Row} {range : Range} → x ≡ rowAt table k → range ≡ rangeAt ranges k → Centred range x
+read-centred {table} {ranges} {n} {k} of earlier {x} {range} row-read range-read =
+    subst (λ r. Centred range r) (sym row-read) (subst (λ r. Centred r (rowAt table k)) (sym range-read) (of .centred k earlier))
 
 -- the row at the index that a field names, and its range
 module _ {n k : ℕ} {z : ℤ} (named : Natural 1 n z) (index : k ≡ natural z) where
@@ -82,25 +76,25 @@ module _ (squares : ℕ) (table ranges : List ℤ) (n : ℕ) (t : Step) where
   unfolding stepAnswer
   constant-step e q = q ∙ rw e
 
-  pub reciprocal-step : {a : Answer} {x : Row} {range : Range} → natural (t .code) ≡ lastCode → x ≡ namedRow (rowsIn table n) (t .first)
-      → range ≡ namedRange (rangesIn ranges n) (t .first) → a ≡ reciprocal squares n x range
+  pub unary-step : {a : Answer} {x : Row} {range : Range} → lastBinary < natural (t .code) → x ≡ namedRow (rowsIn table n) (t .first)
+      → range ≡ namedRange (rangesIn ranges n) (t .first) → a ≡ unaryAnswer squares n (t .code) x range
       → a ≡ stepAnswer squares (rowsIn table n) (rangesIn ranges n) t
   unfolding stepAnswer
-  reciprocal-step {a} {x} {range} e named told q =
+  unary-step {a} {x} {range} unary named told q =
       q
-      ∙ ap (λ m. reciprocal squares m x range) (sym (length-rowsIn table n))
-      ∙ ap₂ (reciprocal squares (length (rowsIn table n))) named told
-      ∙ rw e
+      ∙ ap (λ m. unaryAnswer squares m (t .code) x range) (sym (length-rowsIn table n))
+      ∙ ap₂ (unaryAnswer squares (length (rowsIn table n)) (t .code)) named told
+      ∙ rw (ne-eqb (natural (t .code)) 1 (λ e. omega arith), lt-leb (natural (t .code)) lastBinary unary)
 
-  pub binary-step : {a : Answer} {x y : Row} → (natural (t .code) ≡ 1 → ⊥) → (natural (t .code) ≡ lastCode → ⊥)
+  pub binary-step : {a : Answer} {x y : Row} → (natural (t .code) ≡ 1 → ⊥) → natural (t .code) ≤ lastBinary
       → x ≡ namedRow (rowsIn table n) (t .first) → y ≡ namedRow (rowsIn table n) (t .second) → a ≡ binaryAnswer squares n (t .code) x y
       → a ≡ stepAnswer squares (rowsIn table n) (rangesIn ranges n) t
   unfolding stepAnswer
-  binary-step {a} {x} {y} not-constant not-reciprocal first second q =
+  binary-step {a} {x} {y} not-constant binary first second q =
       q
       ∙ ap (λ m. binaryAnswer squares m (t .code) x y) (sym (length-rowsIn table n))
       ∙ ap₂ (binaryAnswer squares (length (rowsIn table n)) (t .code)) first second
-      ∙ rw (ne-eqb _ 1 not-constant, ne-eqb _ lastCode not-reciprocal)
+      ∙ rw (ne-eqb _ 1 not-constant, le-leb (natural (t .code)) lastBinary binary)
 
 -- the answer, by the row's line
 module _ (c : Schedule) (table ranges : List ℤ) (n : ℕ) where

@@ -12,12 +12,13 @@ use lib.ListN.{length}
 use Rattle.affine.specs.declared.Row.{Row}
 use Rattle.affine.specs.declared.Range.{Range}
 use Rattle.affine.specs.declared.Status.{Status}
-use Rattle.affine.specs.declared.Status.the-variants.{Accepted, SpanPassed, ZeroInRange}
+use Rattle.affine.specs.declared.Status.the-variants.{Accepted, SpanPassed, ZeroInRange, NoRoot}
 use Rattle.affine.specs.declared.Answer.{Answer}
 use Rattle.affine.specs.Lists.{pick}
 use Rattle.affine.specs.Row.{withinSpan, formRange}
 use Rattle.affine.specs.Steps.{checked, number, refused}
 use Rattle.affine.specs.Reciprocal.{zeroInRange, distance, candidate, reciprocalRow, reciprocalApart, reciprocal}
+use Rattle.affine.specs.Root.{rootCandidate, rootRow, belowOne, startsBelowZero, rootFrom, squareRoot}
 use Rattle.affine.proofs.Answers.{checked-accepted}
 use Rattle.sheet.specs.declared.Schedule.{Schedule}
 use Rattle.sheet.specs.Causes.{refusal, accepted}
@@ -36,6 +37,7 @@ pub number-zero : (s : Status) → number s ≡ 0 → s ≡ Accepted
 number-zero Accepted e = refl
 number-zero SpanPassed e = absurd (omega arith)
 number-zero ZeroInRange e = absurd (omega arith)
+number-zero NoRoot e = absurd (omega arith)
 
 pub record Went (c : Schedule) (n : ℕ) : Type 0 where
   pub rows : worked c n .rows ≡ rowsUpTo c n
@@ -105,4 +107,30 @@ reciprocal-accepted squares own x range h = by-range (zeroInRange range) refl h 
         by-span : (t : Bool) → pick t (checked r) (refused SpanPassed) .status ≡ Accepted
             → reciprocal squares own x range ≡ pick t (checked r) (refused SpanPassed) → Inverted squares own x range
         by-span true h q = record { apart = e; row = ap (λ a. a .row) (q ∙ checked-accepted r (formRange r) h) }
+        by-span false h q = absurd (let z : number SpanPassed ≡ number Accepted = ap number h in omega arith)
+
+pub record Rooted (squares own : ℕ) (x : Row) (range : Range) : Type 0 where
+  pub some : belowOne range ≡ false
+  pub starts : startsBelowZero (rootCandidate x) ≡ false
+  pub row : squareRoot squares own x range .row ≡ rootRow squares own x (range .low)
+
+pub root-accepted : (squares own : ℕ) (x : Row) (range : Range) → squareRoot squares own x range .status ≡ Accepted → Rooted squares own x range
+root-accepted squares own x range h = by-range (belowOne range) refl h refl
+  where
+    r : Row
+    r = rootRow squares own x (range .low)
+
+    by-range : (t : Bool) → belowOne range ≡ t → pick t (refused NoRoot) (rootFrom squares own x (range .low)) .status ≡ Accepted
+        → squareRoot squares own x range ≡ pick t (refused NoRoot) (rootFrom squares own x (range .low)) → Rooted squares own x range
+    by-range true e h q = absurd (let z : number NoRoot ≡ number Accepted = ap number h in omega arith)
+    by-range false e h q = by-span (withinSpan (rootCandidate x)) h q
+      where
+        by-start : (t : Bool) → startsBelowZero (rootCandidate x) ≡ t → pick t (refused NoRoot) (checked r) .status ≡ Accepted
+            → squareRoot squares own x range ≡ pick t (refused NoRoot) (checked r) → Rooted squares own x range
+        by-start true s h q = absurd (let z : number NoRoot ≡ number Accepted = ap number h in omega arith)
+        by-start false s h q = record { some = e; starts = s; row = ap (λ a. a .row) (q ∙ checked-accepted r (formRange r) h) }
+
+        by-span : (t : Bool) → pick t (pick (startsBelowZero (rootCandidate x)) (refused NoRoot) (checked r)) (refused SpanPassed) .status ≡ Accepted
+            → squareRoot squares own x range ≡ pick t (pick (startsBelowZero (rootCandidate x)) (refused NoRoot) (checked r)) (refused SpanPassed) → Rooted squares own x range
+        by-span true h q = by-start (startsBelowZero (rootCandidate x)) refl h q
         by-span false h q = absurd (let z : number SpanPassed ≡ number Accepted = ap number h in omega arith)

@@ -20,9 +20,9 @@ use Rattle.affine.specs.Limits.{symbols, spanLimit}
 use Rattle.affine.specs.Lists.{at, tabulate}
 use Rattle.affine.specs.Row.{numbers, span, radius}
 use Rattle.affine.specs.Steps.{constantRow, number}
-use Rattle.affine.specs.Reciprocal.{ApartOutweighs}
 use Rattle.affine.proofs.Form.{Shaped}
 use Rattle.affine.proofs.Lists.{length-tabulate, getD-tabulate}
+use Rattle.affine.specs.Root.{Centred}
 use Rattle.sheet.specs.declared.Schedule.{Schedule}
 use Rattle.sheet.specs.Causes.{refusal, accepted}
 use Rattle.sheet.proofs.Passed.{Passed}
@@ -33,7 +33,7 @@ use Rattle.evaluation.proofs.TableLaws.{length-numbers, rowOfNumbers-nu
 use Rattle.evaluation.proofs.WorkLaws.{nextRow, rowsUpTo, went, number-zero}
 use Rattle.evaluation.proofs.SoundRows.{Sound, row-sound, row-radius}
 use Rattle.evaluation.proofs.EveryRow.{none-later}
-use Rattle.evaluation.proofs.OwnRanges.{noRange, length-own, own-at, own-more, answer-range, own-outweighs, own-ordered}
+use Rattle.evaluation.proofs.OwnRanges.{noRange, length-own, own-at, own-more, answer-range, own-centred, own-ordered}
 use Rattle.evaluation.proofs.EvaluationEnds.{nothing-put, nothing-told}
 
 -- the row that stands for none
@@ -194,14 +194,14 @@ module _ {c : Schedule} {n : ℕ} {before after beforeRanges afterRanges : List 
   ranges-of passed h =
       record {
         room = omega (arith, length-ranges-kept h);
-        apart = λ i l. subst (λ r. ApartOutweighs (rangeAt afterRanges i) r) (sym (row-held i l))
-            (subst (λ r. ApartOutweighs r (nextRow c (rowsUpTo c i))) (sym (range-held i l)) (outweighs i l));
+        centred = λ i l. subst (λ r. Centred (rangeAt afterRanges i) r) (sym (row-held i l))
+            (subst (λ r. Centred r (nextRow c (rowsUpTo c i))) (sym (range-held i l)) (around i l));
       }
     where
-      outweighs : (i : ℕ) → i < n → ApartOutweighs (ownRange c i (nextRow c (rowsUpTo c i))) (nextRow c (rowsUpTo c i))
-      outweighs i l =
-          subst (λ k. ApartOutweighs (ownRange c k (nextRow c (rowsUpTo c i))) (nextRow c (rowsUpTo c i))) (length-grown (nextRow c) i)
-          (own-outweighs c (rowsUpTo c i) passed (went c n (w .none-refused) .each i l))
+      around : (i : ℕ) → i < n → Centred (ownRange c i (nextRow c (rowsUpTo c i))) (nextRow c (rowsUpTo c i))
+      around i l =
+          subst (λ k. Centred (ownRange c k (nextRow c (rowsUpTo c i))) (nextRow c (rowsUpTo c i))) (length-grown (nextRow c) i)
+          (own-centred c (rowsUpTo c i) passed (went c n (w .none-refused) .each i l))
 
   -- with their radii they may be operands
   pub operands : {radii : List ℕ} → RadiiOf c n radii → n ≤ symbols → Operands after radii n

@@ -5,7 +5,7 @@ use mathlib.Core.Bool.{true}
 use mathlib.Core.List.{List}
 use Prim.Native.Nat.{ℕ, suc, _-_, _<_}
 use lib.IntN.{ℤ, pos}
-use Rattle.integer.specs.Fraction.{Fraction, _≈_, whole}
+use Rattle.integer.specs.Fraction.{Fraction, _≈_, _<ℚ_, whole}
 use Rattle.affine.specs.declared.Row.{Row}
 use Rattle.affine.specs.Form.{formValue}
 use Rattle.sheet.specs.declared.Schedule.{Schedule}
@@ -14,7 +14,7 @@ use Rattle.sheet.specs.Lines.{natural, endsAt, stepAt}
 use Rattle.evaluation.specs.Table.{rowPart, rangePart, tableAfter, rangesAfter}
 use Rattle.evaluation.specs.Work.{rowOf, answeredRanges, rowCount, evaluated}
 use Rattle.evaluation.specs.Asking.{rangeOf, sameOf}
-use Rattle.evaluation.specs.Values.{Within, FromMinusOneToOne, exactValue, ownOf, foundValue}
+use Rattle.evaluation.specs.Values.{inUnits, Within, FromMinusOneToOne, exactValue, ownOf, foundValue}
 
 -- "Give the inputs of any accepted sheet whatever fractions within their ends"
 abbrev pub InputsWithin : Schedule → (ℕ → Fraction) → Type 0
@@ -39,6 +39,8 @@ pub record Demand3 (c : Schedule) (rows : List Row) (left leftRanges : List ℤ)
   pub found-in-unit : (i : ℕ) → i < rowCount c → ownOf rows i ≢ pos 0 → FromMinusOneToOne (foundValue c x rows i)
   -- "and no exact divisor is zero": "the exact value of the row that a reciprocal names"
   pub divisor-nonzero : (j : ℕ) → j < natural (c .steps) → natural (stepAt c j .code) ≡ 5 → ¬ (exactValue c x (natural (stepAt c j .first) - 1) ≈ whole (pos 0))
+  -- and every exact value of which a root is taken is at least a unit ("12: low below 1"), so that the exact root is one
+  pub root-of-some : (j : ℕ) → j < natural (c .steps) → natural (stepAt c j .code) ≡ 6 → ¬ (exactValue c x (natural (stepAt c j .first) - 1) <ℚ inUnits (pos 1))
   -- the tables left answer for every row ..
   pub range-answered : (i : ℕ) → i < rowCount c → rangeOf left leftRanges (rowCount c) (suc i) .refusal ≡ accepted
   -- .. and "each exact value lies in its row's range, the one that document 01 fixes and our calls answer"

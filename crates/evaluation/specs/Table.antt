@@ -10,7 +10,7 @@ use Rattle.affine.specs.declared.Range.{Range}
 use Rattle.affine.specs.Limits.{symbols, pairs, spanLimit}
 use Rattle.affine.specs.Lists.{at, tabulate}
 use Rattle.affine.specs.Row.{numbers, span, radius, NoneFrom}
-use Rattle.affine.specs.Reciprocal.{ApartOutweighs}
+use Rattle.affine.specs.Root.{Centred}
 
 -- "A row is 52 whole numbers"
 abbrev pub rowWidth : ℕ
@@ -58,7 +58,7 @@ allNumbers of (x ∷ xs) = of x ++ allNumbers of xs
 unfoldable pub after : {A : Type 0} → ℕ → (A → List ℤ) → List A → List ℤ → List ℤ
 after width of xs table = allNumbers of xs ++ drop (width * length xs) table
 
--- "Evaluation needs 52 numbers for each row and writes no others. After 6 or 7 the rows before the place are written."
+-- "Evaluation needs 52 numbers for each row and writes no others. After 6 or 7 the rows before the place are written." (12: "place and table as for 7".)
 abbrev pub tableAfter : List Row → List ℤ → List ℤ
 tableAfter rows table = after rowWidth numbers rows table
 
@@ -85,7 +85,7 @@ pub record Operands (table : List ℤ) (radii : List ℕ) (n : ℕ) : Type 0 whe
 
 pub record RangesOf (table ranges : List ℤ) (n : ℕ) : Type 0 where
   pub room : rangeWidth * n ≤ length ranges
-  pub apart : (i : ℕ) → i < n → ApartOutweighs (rangeAt ranges i) (rowAt table i)
+  pub centred : (i : ℕ) → i < n → Centred (rangeAt ranges i) (rowAt table i)
 
 -- ranges of which no low is above its high
 pub record RangesOrdered (ranges : List ℤ) (n : ℕ) : Type 0 where

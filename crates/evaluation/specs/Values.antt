@@ -5,6 +5,7 @@ use lib.Dec.{eqb, ltb}
 use lib.IntN.{ℤ, pos, negsuc}
 use lib.ListN.{length, getD}
 use Rattle.integer.specs.Fraction.{Fraction, _<ℚ_, _+ℚ_, _-ℚ_, _*ℚ_, _/ℚ_, reciprocal, over, whole}
+use Rattle.integer.specs.Root.{floorRoot}
 use Rattle.affine.specs.declared.Row.{Row}
 use Rattle.affine.specs.Limits.{unit}
 use Rattle.affine.specs.Lists.{pick, at, equal}
@@ -35,14 +36,19 @@ FromMinusOneToOne v = Between (whole (negsuc 0)) v (whole (pos 1))
 abbrev pub namedValue : List Fraction → ℤ → Fraction
 namedValue values n = getD values (natural n - 1) (whole (pos 0))
 
--- "The exact value of a step is its code's sum, difference, product or reciprocal of the exact values named"
+-- "Exact meaning: for an exact value of X units, the whole-number root of 4096 × X, rounded down": a fraction again
+unfoldable pub exactRoot : Fraction → Fraction
+exactRoot v = inUnits (pos (floorRoot (whole (pos unit) *ℚ (whole (pos unit) *ℚ v))))
+
+-- "The exact value of a step is its code's sum, difference, product or reciprocal of the exact values named", and of code 6 the exact root
 unfoldable pub exactStep : List Fraction → Step → Fraction
 exactStep values t =
     pick (eqb (natural (t .code)) 1) (inUnits (t .value))
     (pick (eqb (natural (t .code)) 2) (namedValue values (t .first) +ℚ namedValue values (t .second))
     (pick (eqb (natural (t .code)) 3) (namedValue values (t .first) -ℚ namedValue values (t .second))
     (pick (eqb (natural (t .code)) 4) (namedValue values (t .first) *ℚ namedValue values (t .second))
-    (reciprocal (namedValue values (t .first))))))
+    (pick (eqb (natural (t .code)) 5) (reciprocal (namedValue values (t .first)))
+    (exactRoot (namedValue values (t .first)))))))
 
 -- "that of an input is the fraction given": x gives input i, counted from 0, the fraction x i
 unfoldable pub exactRow : Schedule → (ℕ → Fraction) → List Fraction → Fraction

@@ -14,10 +14,12 @@ use Rattle.affine.specs.Row.{formRange}
 use Rattle.affine.specs.Steps.{constantRow, addRows, subtractRows, checked, endsRange, inputAnswer, number}
 use Rattle.affine.specs.Product.{product}
 use Rattle.affine.specs.Reciprocal.{reciprocal}
+use Rattle.affine.specs.Root.{squareRoot}
 use Rattle.sheet.specs.declared.Step.{Step}
 use Rattle.sheet.specs.declared.Schedule.{Schedule}
 use Rattle.sheet.specs.declared.Refusal.{Refusal}
 use Rattle.sheet.specs.Causes.{refusal, accepted}
+use Rattle.sheet.specs.Limits.{lastBinary}
 use Rattle.sheet.specs.Lines.{natural, endsAt, stepAt}
 use Rattle.sheet.specs.Writing.{testOf}
 use Rattle.evaluation.specs.Table.{rowWidth, rangeWidth}
@@ -54,12 +56,17 @@ unfoldable pub binaryAnswer : ℕ → ℕ → ℤ → Row → Row → Answer
 binaryAnswer squares own code x y =
     pick (eqb (natural code) 2) (checked (addRows x y)) (pick (eqb (natural code) 3) (checked (subtractRows x y)) (product squares own x y))
 
--- "Codes: 1 constant (value, ..)", "5 reciprocal of first", and those between. A step's row owns the symbol of its index.
+-- those that name one: "5 reciprocal of first", "Code 6 takes the root of its first row"
+unfoldable pub unaryAnswer : ℕ → ℕ → ℤ → Row → Range → Answer
+unaryAnswer squares own code x range = pick (eqb (natural code) 5) (reciprocal squares own x range) (squareRoot squares own x range)
+
+-- "Codes: 1 constant (value, ..)", and those that name rows. A step's row owns the symbol of its index.
 unfoldable pub stepAnswer : ℕ → List Row → List Range → Step → Answer
 stepAnswer squares rows ranges t =
     pick (eqb (natural (t .code)) 1) (checked (constantRow (t .value)))
-    (pick (eqb (natural (t .code)) 5) (reciprocal squares (length rows) (namedRow rows (t .first)) (namedRange ranges (t .first)))
-    (binaryAnswer squares (length rows) (t .code) (namedRow rows (t .first)) (namedRow rows (t .second))))
+    (pick (leb (natural (t .code)) lastBinary)
+    (binaryAnswer squares (length rows) (t .code) (namedRow rows (t .first)) (namedRow rows (t .second)))
+    (unaryAnswer squares (length rows) (t .code) (namedRow rows (t .first)) (namedRange ranges (t .first))))
 
 -- what the row after the rows so far becomes: an input's row, or a step's
 unfoldable pub rowAnswer : Schedule → List Row → Answer
@@ -79,7 +86,7 @@ onward rows = record { rows = rows; refusal = accepted }
 abbrev pub stopped : List Row → Refusal → Worked
 stopped rows r = record { rows = rows; refusal = r }
 
--- one row more, or the refusal "its row" of 6 or 7, with the rows before it
+-- one row more, or the refusal "its row" of 6, 7 or 12, with the rows before it
 unfoldable pub withAnswer : List Row → Answer → Worked
 withAnswer rows a =
     pick (eqb (number (a .status)) 0)

@@ -22,6 +22,7 @@ fn status_number(s: Status) -> u64
         Status::Accepted => 0,
         Status::SpanPassed => 6,
         Status::ZeroInRange => 7,
+        Status::NoRoot => 12,
     }
 }
 

@@ -1,10 +1,11 @@
-// Runs the divisions and the absolute value of `integer` on their edges, one line each. `checker/floor_edges.py` makes the same lines.
+// Runs the divisions, the absolute value and the root of `integer` on their edges, one line each. `checker/floor_edges.py` makes the same lines.
 use integer::division::ceiling_quotient;
 use integer::division::floor_quotient;
 use integer::division::floor_quotient_4096;
 use integer::division::floor_remainder;
 use integer::division::floor_remainder_4096;
 use integer::magnitude::absolute;
+use integer::root::root;
 
 const LEAST: i64 = -9223372036854775808;
 
@@ -50,6 +51,30 @@ fn natural(i: u64) -> u64 {
         4 => 1073741824,
         5 => 1152921504606846976,
         6 => 18446744073709551614,
+        _ => 18446744073709551615,
+    }
+}
+
+// Squares and their neighbours, the greatest square of all, and the greatest number.
+fn radicand(i: u64) -> u64 {
+    match i {
+        0 => 0,
+        1 => 1,
+        2 => 2,
+        3 => 3,
+        4 => 4,
+        5 => 8,
+        6 => 9,
+        7 => 10,
+        8 => 16777215,
+        9 => 16777216,
+        10 => 16777217,
+        11 => 4398046511103,
+        12 => 4398046511104,
+        13 => 4398046511105,
+        14 => 18446744065119617024,
+        15 => 18446744065119617025,
+        16 => 18446744065119617026,
         _ => 18446744073709551615,
     }
 }
@@ -134,7 +159,21 @@ fn print_ceilings() {
     }
 }
 
+fn print_root(n: u64) {
+    io::write_all(1, b"root");
+    print_unsigned(n);
+    print_unsigned(root(n));
+    io::write_all(1, b"\n");
+}
+
+fn print_roots() {
+    for i in 0..18 {
+        print_root(radicand(i));
+    }
+}
+
 fn main() {
     print_floors();
     print_ceilings();
+    print_roots();
 }

@@ -1,10 +1,11 @@
--- Worked examples: divisions on both sides of 0 by divisors of both signs, and one use each of the solver and of the two provers of orders.
+-- Worked examples: divisions on both sides of 0 by divisors of both signs, roots, and one use each of the solver and of the two provers of orders.
 use mathlib.Core.Path.{_≡_, refl}
 use mathlib.Core.List.{List, [], _∷_, map}
 use native.Mathlib.Omega.{arith}
 use lib.IntN.{ℤ, pos, negsuc, negℤ, _+ℤ_, _-ℤ_, _*ℤ_}
 use lib.Signed.{_≤ℤ_}
 use Rattle.integer.specs.Floor.{floorQuotient, floorRemainder}
+use Rattle.integer.specs.Root.{root, rootIn}
 use Rattle.integer.specs.Fraction.{Fraction, _≤ℚ_, _+ℚ_, _*ℚ_, whole}
 use Rattle.integer.proofs.Ring.{var, con, _⊕_, _⊖_, _⊗_, neg, _≐_}
 use Rattle.integer.proofs.IntegerRing.{ringℤ}
@@ -41,6 +42,12 @@ divide e =
 divisions-hold : map divide divisions ≡ divisions
 unfolding divisions divide floorQuotient floorRemainder
 divisions-hold = refl
+
+-- perfect squares and their neighbours, and the greatest 64-bit number
+roots-hold : map root (0 ∷ 1 ∷ 2 ∷ 3 ∷ 4 ∷ 8 ∷ 9 ∷ 10 ∷ 16777215 ∷ 16777216 ∷ 16777217 ∷ 18446744073709551615 ∷ [])
+    ≡ 0 ∷ 1 ∷ 1 ∷ 1 ∷ 2 ∷ 2 ∷ 3 ∷ 3 ∷ 4095 ∷ 4096 ∷ 4096 ∷ 4294967295 ∷ []
+unfolding root rootIn
+roots-hold = refl
 
 -- an identity of degree 6 in 8 variables
 product-of-squares : (a b c d e f g h : ℤ)

@@ -9,5 +9,6 @@ pub mod Machine
 pub mod Truncated
 pub mod Fraction
 pub mod Bound
+pub mod RootLaws
 pub mod Sum
 mod Examples

@@ -1,3 +1,4 @@
 pub mod Floor
 pub mod Fraction
+pub mod Root
 pub mod Sum

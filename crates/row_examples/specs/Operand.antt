@@ -4,10 +4,10 @@ use Prim.Native.Nat.{ℕ, _≤_}
 use Rattle.affine.specs.declared.Answer.{Answer}
 use Rattle.affine.specs.Limits.{spanLimit}
 use Rattle.affine.specs.Row.{span, radius, NoneFrom}
-use Rattle.affine.specs.Reciprocal.{ApartOutweighs}
+use Rattle.affine.specs.Root.{Centred}
 
 pub record Operand (own : ℕ) (a : Answer) : Type 0 where
   pub within : span (a .row) ≤ spanLimit
   pub radius-told : a .radius ≡ radius (a .row)
   pub none-later : NoneFrom own (a .row .linear)
-  pub apart : ApartOutweighs (a .range) (a .row)
+  pub centred : Centred (a .range) (a .row)

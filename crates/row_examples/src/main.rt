@@ -1,4 +1,4 @@
-// P1 to P13 (manual, section 5.11) over `affine`, a line for each: the numbers of the row and its own range, or the refusal. `checker/row_cases.py` says
+// P1 to P13 and R1 to R6 (manual, section 5.13) over `affine`, a line for each: the numbers of the row and its own range, or the refusal. `checker/row_cases.py` says
 // which row owns which symbol, and makes the same lines.
 use affine::Answer;
 use affine::Range;
@@ -50,6 +50,7 @@ fn print_example(label: &[u8], answer: Answer) {
         Status::Accepted => print_row(row, range),
         Status::SpanPassed => print_refused(6),
         Status::ZeroInRange => print_refused(7),
+        Status::NoRoot => print_refused(12),
     }
     io::write_all(STDOUT_FILENO, b"\n");
 }
@@ -91,6 +92,14 @@ fn print_reciprocal(label: &[u8], x: Answer, squares: usize, own: usize)
     );
 }
 
+fn print_root(label: &[u8], x: Answer, squares: usize, own: usize)
+    requires { ⌜ Operand own x × (squares ≤ paired) × (own < symbols) ⌝ }
+{
+    let row = x.row;
+    let range = x.range;
+    print_example(label, affine::root::take_root(row, range, squares, own));
+}
+
 // Behind an input come the constants, rows 2 and 3: the product is row 4.
 fn product_of_constants(label: &[u8], first: i64, second: i64) {
     let x = constant(first);
@@ -101,6 +110,11 @@ fn product_of_constants(label: &[u8], first: i64, second: i64) {
 // Behind an input comes the constant, row 2: the reciprocal is row 3.
 fn reciprocal_of_constant(label: &[u8], value: i64) {
     print_reciprocal(label, constant(value), 0, 2);
+}
+
+// Behind an input comes the constant, row 2: the root is row 3.
+fn root_of_constant(label: &[u8], value: i64) {
+    print_root(label, constant(value), 0, 2);
 }
 
 // The product of an input with itself is row 2.
@@ -116,6 +130,13 @@ fn reciprocal_of_input(label: &[u8], low: i64, high: i64, squares: usize)
     requires { ⌜ (natAbs low ≤ spanLimit) × (natAbs high ≤ spanLimit) × (low ≤ℤ high) × (squares ≤ paired) ⌝ }
 {
     print_reciprocal(label, input(low, high), squares, 1);
+}
+
+// The root of an input is row 2.
+fn root_of_input(label: &[u8], low: i64, high: i64, squares: usize)
+    requires { ⌜ (natAbs low ≤ spanLimit) × (natAbs high ≤ spanLimit) × (low ≤ℤ high) × (squares ≤ paired) ⌝ }
+{
+    print_root(label, input(low, high), squares, 1);
 }
 
 fn main() {
@@ -134,4 +155,10 @@ fn main() {
     reciprocal_of_input(b"P12b", 1, 3, 0);
     product_of_constants(b"P13a", 268435456, 16384);
     product_of_constants(b"P13b", 268435456, 16385);
+    root_of_constant(b"R1", 4096);
+    root_of_constant(b"R2", 2);
+    root_of_input(b"R3", 4096, 8192, 1);
+    root_of_input(b"R4", 4096, 8192, 0);
+    root_of_input(b"R5", 0, 5, 0);
+    root_of_input(b"R6", 1, 3, 0);
 }

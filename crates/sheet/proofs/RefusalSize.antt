@@ -1,4 +1,4 @@
--- The numbers of a refusal are small: no cause is above 8, and no place is beyond the lines of the longest sheet and one more.
+-- The numbers of a refusal are small: no cause is above 12, and no place is beyond the lines of the longest sheet and one more.
 use mathlib.Core.Path.{_≡_}
 use mathlib.Core.List.{List}
 use Prim.Native.Nat.{ℕ, zero, suc, _+_, _≤_}
@@ -24,9 +24,13 @@ use Rattle.sheet.proofs.CountsRead.{first-sound}
 use Rattle.sheet.proofs.LineRead.{firstPart, secondPart, sheet-first, sheet-second, sheet-ends, sheet-goes-on}
 use Rattle.sheet.proofs.Passed.{counts-first, lines-left-small}
 
+-- the greatest number of a cause that reading or evaluating tells
+abbrev pub lastCause : ℕ
+lastCause = 12
+
 -- a cause, and a place at `most`
 pub record Small (most : ℕ) (r : Refusal) : Type 0 where
-  pub number-small : r .number ≤ 8
+  pub number-small : r .number ≤ lastCause
   pub place-small : r .place ≤ most
 
 -- one line more than the longest sheet has

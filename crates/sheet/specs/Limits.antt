@@ -17,9 +17,9 @@ endLimit = 268435456
 abbrev pub maxBytes : ℕ
 maxBytes = 1024
 
--- "Codes: 1 constant, 2 add, 3 subtract, 4 multiply, 5 reciprocal": the last of those that name a second row, and the last of all
+-- "Codes: 1 constant, 2 add, 3 subtract, 4 multiply, 5 reciprocal", and 6 root: the last of those that name a second row, and the last of all
 abbrev pub lastBinary : ℕ
 lastBinary = 4
 
 abbrev pub lastCode : ℕ
-lastCode = 5
+lastCode = 6

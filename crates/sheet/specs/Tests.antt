@@ -47,7 +47,7 @@ abbrev pub valuePasses : Bool → ℤ → Bool
 valuePasses used z = pick used (withinLimit z) (isZero z)
 
 -- "Codes: 1 constant (value, within the same limits as an end), 2 add, 3 subtract second from first, 4 multiply, 5 reciprocal of first."
--- first is used by 2 to 5, second by 2 to 4, value by 1.
+-- "Code 6 takes the root of its first row; second and value are 0." first is used by 2 to 6, second by 2 to 4, value by 1.
 unfoldable pub stepPasses : ℕ → ℤ → ℤ → ℤ → ℤ → Bool
 stepPasses earlier code first second value =
     pick (between (pos 1) code (pos lastCode))

@@ -35,7 +35,7 @@ pub const END_LIMIT: i64 = 268435456;
 
 pub const LAST_BINARY: i64 = 4;
 
-pub const LAST_CODE: i64 = 5;
+pub const LAST_CODE: i64 = 6;
 
 // The ends of an input.
 pub struct End {

@@ -6,7 +6,7 @@ use Rattle.affine.specs.Limits.{symbols}
 use Rattle.affine.specs.Row.{formRange}
 use Rattle.affine.specs.Steps.{constantRow}
 use Rattle.affine.proofs.Support.{at-replicate}
-use Rattle.affine.proofs.Distance.{form-outweighs}
+use Rattle.affine.proofs.Distance.{form-centred}
 use Rattle.row_examples.proofs.Within.{checked-operand}
 use Rattle.row_examples.proofs.constant.Statement.{statement}
 use Rattle.row_examples.proofs.constant.Tie as tie
@@ -17,7 +17,7 @@ constant-requires c κs = search needs
 returns : tie.Need-returns
 returns c own =
     let r = constantRow (c .before .args .value) in
-    rw (c .constant .ensures, toZ-ofZ w64 _ (c .before .fits .value)) (checked-operand own r (formRange r) (λ i l. at-replicate symbols i) (form-outweighs r))
+    rw (c .constant .ensures, toZ-ofZ w64 _ (c .before .fits .value)) (checked-operand own r (formRange r) (λ i l. at-replicate symbols i) (form-centred r))
 
 pub constant-spec : {M : Type 1} → statement M
 constant-spec = tie.close (tie.spec constant-requires returns)

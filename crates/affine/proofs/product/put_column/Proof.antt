@@ -16,7 +16,7 @@ use Rattle.affine.specs.PairOrder.{overUsed}
 use Rattle.affine.specs.Row.{rowOfParts}
 use Rattle.affine.specs.Product.{pairTotal, pairTotals, productRounding}
 use Rattle.affine.proofs.Totals.{length-pair-totals}
-use Rattle.affine.proofs.LentRows.{LentRows, lentRows, given-x, given-y, read-x, read-y, read-x-within, read-y-within, pair-totals-read}
+use Rattle.affine.proofs.LentRows.{LentRows, lentRows, given-x, given-y, read-x, read-y, read-x-within, read-y-within, read-as-given}
 use Rattle.affine.proofs.Divided.{quotient-zero, remainder-zero, remainders-within, map-pair-totals}
 use Rattle.affine.proofs.Columns.{AtPair, at-first, at-next, at-symbols, column, length-column, column-none, column-zero, column-more, column-all, column-sum-more, column-sum-within}
 use Rattle.affine.proofs.product.put_column.Statement.{statement}
@@ -46,7 +46,7 @@ lent c = let g = c .args in lentRows (g .c) (g .a .now) (g .p .now) (g .d) (g .b
 whole : (c : Start) (h : ℤ → ℤ) → h (pos 0) ≡ pos 0 → (squares : ℕ)
     → map h (pairTotals squares (given-x (lent c)) (given-y (lent c))) ≡ overUsed squares (λ k. h (pairTotal (read-x (lent c)) (read-y (lent c)) k))
 whole c h z squares =
-    ap (map h) (sym (pair-totals-read (lent c) squares)) ∙ map-pair-totals h (read-x (lent c)) (read-y (lent c)) z squares
+    ap (map h) (sym (read-as-given (lent c) (pairTotals squares))) ∙ map-pair-totals h (read-x (lent c)) (read-y (lent c)) z squares
 
 loop-holds : tie.Need-loop-holds Inv-loop μ-loop
 loop-holds c =

@@ -15,7 +15,7 @@ use Rattle.affine.specs.Limits.{symbols, unit}
 use Rattle.affine.specs.Row.{rowOfParts}
 use Rattle.affine.specs.Product.{linearTotal, linearTotals, productRounding}
 use Rattle.affine.proofs.Totals.{length-linear-totals, linear-total-none}
-use Rattle.affine.proofs.LentRows.{LentRows, lentRows, given-x, given-y, read-x, read-y, read-x-within, read-y-within, linear-totals-read}
+use Rattle.affine.proofs.LentRows.{LentRows, lentRows, given-x, given-y, read-x, read-y, read-x-within, read-y-within, read-as-given}
 use Rattle.affine.proofs.Divided.{quotient-zero, remainder-zero, remainders-within, map-linear-totals}
 use Rattle.affine.proofs.PutSoFar.{front, length-front, front-none, front-zero, front-more, front-all, front-sum-none, front-sum-more, front-sum-within}
 use Rattle.affine.proofs.product.put_linear.Statement.{statement}
@@ -123,7 +123,7 @@ whole c h z =
     let none = linear-total-none (read-x (lent s)) (read-y (lent s)) (s .args .own) (s .pre .0 .2) (s .pre .0 .3) in
     front-all symbols _ (c .before .loop .i) (λ k l. ap h (none k (omega (arith, c .loop-test .left))) ∙ z)
     ∙ sym (map-linear-totals h (read-x (lent s)) (read-y (lent s)))
-    ∙ ap (map h) (linear-totals-read (lent s))
+    ∙ ap (map h) (read-as-given (lent s) linearTotals)
 
 returns : tie.Need-returns Inv-loop μ-loop
 returns c =

@@ -15,7 +15,7 @@ use Rattle.affine.specs.Row.{rowOfParts}
 use Rattle.affine.specs.Product.{pairTotals, productRounding}
 use Rattle.affine.proofs.SumLaws.{sumAbs-zeros}
 use Rattle.affine.proofs.Totals.{length-pair-totals}
-use Rattle.affine.proofs.LentRows.{LentRows, lentRows, given-x, given-y, read-x, read-y, read-x-within, read-y-within, pair-totals-read}
+use Rattle.affine.proofs.LentRows.{LentRows, lentRows, given-x, given-y, read-x, read-y, read-x-within, read-y-within, read-as-given}
 use Rattle.affine.proofs.Columns.{used-none}
 use Rattle.affine.proofs.Divided.{quotients, remainders, quotient-zero, remainder-zero, map-pair-totals}
 use Rattle.affine.proofs.product.put_pairs.Statement.{statement}
@@ -81,7 +81,7 @@ all-used c =
     let l = c .before in
     let s = l .before in
     let all : l .loop .j ≡ s .args .squares = omega (arith, l .loop .inv .0, c .loop-test .left) in
-    ap (λ n. pairTotals n (read-x (lent s)) (read-y (lent s))) all ∙ pair-totals-read (lent s) (s .args .squares)
+    ap (λ n. pairTotals n (read-x (lent s)) (read-y (lent s))) all ∙ read-as-given (lent s) (pairTotals (s .args .squares))
 
 returns : tie.Need-returns Inv-loop μ-loop
 returns c =

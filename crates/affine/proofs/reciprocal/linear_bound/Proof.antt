@@ -1,25 +1,26 @@
 -- `linear_bound` meets its contract: the loop keeps the sum of the absolute totals passed, and from the own symbol on all totals are 0.
-use mathlib.Core.Path.{_≡_, sym, ap, ap₂, _∙_}
+use mathlib.Core.Path.{ap, _∙_}
 use mathlib.Core.List.{[]}
 use Prim.Native.Nat.{ℕ, _+_, _-_, _≤_, _<_}
 use native.Mathlib.Omega.{arith}
 use mir.Syntax.{w64}
-use mir.Val.{toZ, ofZ}
+use mir.Val.{toZ}
 use borrow.Author.Needs.{needs}
 use lib.IntN.{natAbs}
 use Rattle.integer.specs.Sum.{sumAbs}
 use Rattle.integer.proofs.Machine.{back}
 use Rattle.affine.specs.Limits.{symbols, spanLimit}
 use Rattle.affine.specs.Row.{rowOfParts, span}
-use Rattle.affine.specs.Product.{linearTotal}
-use Rattle.affine.proofs.LentRows.{LentRows, lentRows, read-x, read-y, read-x-within, read-y-within, linear-totals-read}
-use Rattle.affine.proofs.PutSoFar.{front-sum-none, front-sum-more}
-use Rattle.affine.proofs.ErrorBound.{linearSum, linear-sum-within, linear-sum-all}
+use Rattle.affine.specs.Product.{linearTotal, linearTotals}
+use Rattle.affine.proofs.LentRows.{LentRows, lentRows, read-x, read-y, read-x-within, read-y-within, read-as-given}
+use Rattle.affine.proofs.LoopSums.{SymbolSum, symbol-sum-none, symbol-sum-more, symbol-sum-within, symbol-sum-all}
+use Rattle.affine.proofs.Magnitude.{totals-within}
+use Rattle.affine.proofs.Totals.{linear-total-none}
 use Rattle.affine.proofs.reciprocal.linear_bound.Statement.{statement}
 use Rattle.affine.proofs.reciprocal.linear_bound.Tie as tie
 
 abbrev Inv-loop : tie.InvT-loop
-Inv-loop c a d b own sum₀ i₀ sum i = (i ≤ own) × (sum ≡ linearSum (rowOfParts (toZ w64 c) a []) (rowOfParts (toZ w64 d) b []) i)
+Inv-loop c a d b own sum₀ i₀ sum i = SymbolSum (linearTotal (rowOfParts (toZ w64 c) a []) (rowOfParts (toZ w64 d) b [])) own i sum
 
 abbrev μ-loop : tie.MeasureT-loop
 μ-loop c a d b own sum₀ i₀ sum i = own - i
@@ -35,7 +36,7 @@ y-within : (c : tie.Start Inv-loop μ-loop) → span (read-y (lent c)) ≤ spanL
 y-within c = read-y-within (lent c) (c .pre .1 .1)
 
 loop-holds : tie.Need-loop-holds Inv-loop μ-loop
-loop-holds c = (omega arith, sym (front-sum-none symbols (linearTotal (read-x (lent c)) (read-y (lent c)))))
+loop-holds c = symbol-sum-none (linearTotal (read-x (lent c)) (read-y (lent c))) (c .args .own)
 
 -- ---- a turn
 abbrev start : tie.In-loop Inv-loop μ-loop → tie.Start Inv-loop μ-loop
@@ -60,24 +61,19 @@ Added = tie.After-absolute Inv-loop μ-loop
 abbrev within : Added → tie.In-loop Inv-loop μ-loop
 within c = c .before .before
 
-total-is : (c : tie.After-linear-total Inv-loop μ-loop)
-    → let t = c .before in
-    toZ w64 (ofZ w64 (c .linear-total .result)) ≡ linearTotal (read-x (lent (start t))) (read-y (lent (start t))) (index t)
-total-is c = back (c .linear-total .ok) ∙ c .linear-total .ensures
-
-sum-is : (c : Added)
+added : (c : Added)
     → let t = within c in
-    t .before .loop .sum + c .absolute .result ≡ linearSum (read-x (lent (start t))) (read-y (lent (start t))) (index t + 1)
-sum-is c =
+    SymbolSum (linearTotal (read-x (lent (start t))) (read-y (lent (start t)))) (start t .args .own) (index t + 1) (t .before .loop .sum + c .absolute .result)
+added c =
     let t = within c in
-    ap₂ _+_ (t .before .loop .inv .1) (c .absolute .ensures ∙ ap natAbs (total-is (c .before)))
-    ∙ sym (front-sum-more symbols (linearTotal (read-x (lent (start t))) (read-y (lent (start t)))) (index t) (inside t))
+    let total-is = back (c .before .linear-total .ok) ∙ c .before .linear-total .ensures in
+    symbol-sum-more (t .before .loop .inv) (start t .pre .0 .0) (t .loop-test .taken) (c .absolute .ensures ∙ ap natAbs total-is)
 
 add-sum : tie.Need-add-sum Inv-loop μ-loop
+unfolding linearTotals
 add-sum c =
-    let t = within c in
-    let s = start t in
-    omega (arith, sum-is c, linear-sum-within (read-x (lent s)) (read-y (lent s)) (x-within s) (y-within s) (index t + 1))
+    let s = start (within c) in
+    omega (arith, symbol-sum-within (added c), totals-within 0 (read-x (lent s)) (read-y (lent s)) (x-within s) (y-within s))
 
 add-i : tie.Need-add-i Inv-loop μ-loop
 add-i c = omega (arith, inside (within c))
@@ -86,15 +82,15 @@ loop-less : tie.Need-loop-less Inv-loop μ-loop
 loop-less c = search needs
 
 loop-again : tie.Need-loop-again Inv-loop μ-loop
-loop-again c = (omega (arith, within c .loop-test .taken), sum-is c)
+loop-again c = added c
 
 returns : tie.Need-returns Inv-loop μ-loop
+unfolding linearTotals
 returns c =
     let l = c .before in
     let s = l .before in
-    l .loop .inv .1
-    ∙ linear-sum-all (read-x (lent s)) (read-y (lent s)) (s .pre .0 .1) (s .pre .0 .2) (l .loop .i) (c .loop-test .left)
-    ∙ ap sumAbs (linear-totals-read (lent s))
+    let none = linear-total-none (read-x (lent s)) (read-y (lent s)) (s .args .own) (s .pre .0 .1) (s .pre .0 .2) in
+    symbol-sum-all (l .loop .inv) (c .loop-test .left) none ∙ ap sumAbs (read-as-given (lent s) linearTotals)
 
 pub linear-bound-spec : {M : Type 1} → statement M
 linear-bound-spec =

@@ -9,9 +9,9 @@ use borrow.Author.Needs.{needs}
 use Rattle.integer.specs.Sum.{sumAbs}
 use Rattle.affine.specs.Limits.{spanLimit}
 use Rattle.affine.specs.Row.{rowOfParts, span}
-use Rattle.affine.specs.Product.{pairTotals}
-use Rattle.affine.proofs.LentRows.{LentRows, lentRows, read-x, read-y, read-x-within, read-y-within, pair-totals-read}
-use Rattle.affine.proofs.ErrorBound.{pair-sum-none}
+use Rattle.affine.specs.Product.{pairTotal, pairTotals}
+use Rattle.affine.proofs.LentRows.{LentRows, lentRows, read-x, read-y, read-x-within, read-y-within, read-as-given}
+use Rattle.affine.proofs.LoopSums.{pair-sum-none}
 use Rattle.affine.proofs.reciprocal.pair_bound.Statement.{statement}
 use Rattle.affine.proofs.reciprocal.pair_bound.Tie as tie
 
@@ -33,7 +33,8 @@ y-within : (c : tie.Start Inv-loop μ-loop) → span (read-y (lent c)) ≤ spanL
 y-within c = read-y-within (lent c) (c .pre .2)
 
 loop-holds : tie.Need-loop-holds Inv-loop μ-loop
-loop-holds c = (omega arith, pair-sum-none (read-x (lent c)) (read-y (lent c)))
+unfolding pairTotals
+loop-holds c = (omega arith, pair-sum-none (pairTotal (read-x (lent c)) (read-y (lent c))))
 
 -- ---- a turn
 column-bound-requires : tie.Need-column-bound-requires Inv-loop μ-loop
@@ -57,7 +58,7 @@ returns c =
     let all : o .loop .j ≡ s .args .squares = omega (arith, c .loop-test .left, o .loop .inv .0) in
     o .loop .inv .1
     ∙ ap (λ n. sumAbs (pairTotals n (read-x (lent s)) (read-y (lent s)))) all
-    ∙ ap sumAbs (pair-totals-read (lent s) (s .args .squares))
+    ∙ ap sumAbs (read-as-given (lent s) (pairTotals (s .args .squares)))
 
 pub pair-bound-spec : {M : Type 1} → statement M
 pair-bound-spec =

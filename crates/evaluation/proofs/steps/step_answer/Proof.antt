@@ -1,17 +1,17 @@
--- `step_answer` tests the code as its definition does; the rows and the range it reads are those that the step names, for what is read back from the bits of a
+-- `step_answer` tests the code as its definition does; the rows that it hands on are those that the step names, for what is read back from the bits of a
 -- field that passed is the field's number.
 use mathlib.Core.Path.{_≡_, _∙_}
-use Prim.Native.Nat.{_-_, _<_}
+use Prim.Native.Nat.{_-_, _≤_, _<_}
 use native.Mathlib.Omega.{arith}
 use lib.IntN.{natAbs}
 use mir.Syntax.{w64}
 use mir.Val.{SFits, toZ, ofZ}
 use mir.ValLaws.{toZ-ofZ}
 use Rattle.sheet.specs.Lines.{natural}
-use Rattle.sheet.specs.Limits.{lastCode}
+use Rattle.sheet.specs.Limits.{lastBinary}
 use Rattle.sheet.proofs.Passing.{Natural}
-use Rattle.evaluation.proofs.FieldBits.{NaturalCast, cast-natural, number-is, number-is-not}
-use Rattle.evaluation.proofs.StepAnswers.{read-room, read-span, read-radius-room, read-radius, read-none, read-range-room, read-apart, named-earlier, named-is, named-range-is, constant-step, reciprocal-step, binary-step}
+use Rattle.evaluation.proofs.FieldBits.{NaturalCast, cast-natural, number-is, number-is-not, number-above, number-not-above}
+use Rattle.evaluation.proofs.StepAnswers.{named-earlier, named-is, named-range-is, constant-step, unary-step, binary-step}
 use borrow.Author.Needs.{needs}
 use Rattle.evaluation.proofs.steps.step_answer.Statement.{statement}
 use Rattle.evaluation.proofs.steps.step_answer.Tie as tie
@@ -36,17 +36,17 @@ first-named c = let passed = start c .pre .0 .2 in passed .first-row (omega (ari
 first-cast : (c : tie.After-struct-told3) → NaturalCast (start c .args .t .first)
 first-cast c = cast-natural (first-named c) (fields-fit (start c) .1)
 
--- where it is not 5 either, second does
+-- where it is no unary one, second does
 abbrev earlier : tie.After-struct-told4 → tie.After-struct-told3
 earlier c = c .before .before .before
 
-not-reciprocal : (c : tie.After-struct-told4) → natural (start (earlier c) .args .t .code) ≡ lastCode → ⊥
-not-reciprocal c = number-is-not (fields-fit (start (earlier c)) .0) (omega arith) (c .before .before .if2 .left)
+binary : (c : tie.After-struct-told4) → natural (start (earlier c) .args .t .code) ≤ lastBinary
+binary c = number-not-above (fields-fit (start (earlier c)) .0) (c .before .before .if2 .left)
 
 second-named : (c : tie.After-struct-told4) → Natural 1 (start (earlier c) .args .own) (start (earlier c) .args .t .second)
 second-named c =
     let passed = start (earlier c) .pre .0 .2 in
-    passed .second-row (omega (arith, passed .code-in .from, not-constant (earlier c))) (omega (arith, passed .code-in .to, not-reciprocal c))
+    passed .second-row (omega (arith, passed .code-in .from, not-constant (earlier c))) (binary c)
 
 second-cast : (c : tie.After-struct-told4) → NaturalCast (start (earlier c) .args .t .second)
 second-cast c = cast-natural (second-named c) (fields-fit (start (earlier c)) .2)
@@ -68,49 +68,22 @@ cast-first c = first-cast c .fits
 first-earlier : (c : tie.After-struct-told3) → natAbs (toZ w64 (ofZ w64 (start c .args .t .first))) - 1 < start c .args .own
 first-earlier c = named-earlier (first-named c) (first-cast c .is)
 
-sub-get-range : tie.Need-sub-get-range
-sub-get-range c = omega (arith, first-cast (c .before) .is, first-named (c .before) .from)
+sub-unary-answer : tie.Need-sub-unary-answer
+sub-unary-answer c = let f = c .before in omega (arith, first-cast f .is, first-named f .from)
 
-get-range-requires : tie.Need-get-range-requires
-get-range-requires c κs = read-range-room (start (c .before) .pre .1 .1) (first-earlier (c .before))
-
-sub-get-row : tie.Need-sub-get-row
-sub-get-row c = let f = c .before .before in omega (arith, first-cast f .is, first-named f .from)
-
-get-row-requires : tie.Need-get-row-requires
-get-row-requires c κs = let f = c .before .before in read-room (start f .pre .1 .0) (first-earlier f)
-
-sub-x-radius : tie.Need-sub-x-radius
-sub-x-radius c = let f = c .before .before .before in omega (arith, first-cast f .is, first-named f .from)
-
-mul-x-radius : tie.Need-mul-x-radius
-mul-x-radius c = let f = c .before .before .before in omega (arith, first-earlier f, start f .pre .0 .1)
-
-shared-slice-read-x-radius : tie.Need-shared-slice-read-x-radius
-shared-slice-read-x-radius c = let f = c .before .before .before .before in read-radius-room (start f .pre .1 .2) (first-earlier f)
-
-invert-requires : tie.Need-invert-requires
-invert-requires c κs =
-    let g = c .before in
-    let r = g .before in
-    let f = r .before .before in
-    let s = start f in
-    let x = g .get-row .ensures in (
-      (s .pre .0 .0, s .pre .0 .1, read-span (s .pre .1 .0) (first-earlier f) x, read-apart (s .pre .1 .1) (first-earlier f) x (r .get-range .ensures)),
-      (read-radius (s .pre .1 .2) (first-earlier f) x, read-none (s .pre .1 .2) (first-earlier f) x),
-    )
+unary-answer-requires : tie.Need-unary-answer-requires
+unary-answer-requires c κs = let s = start (c .before) in ((s .pre .0 .0, s .pre .0 .1, first-earlier (c .before)), s .pre .1)
 
 returns-2 : tie.Need-returns-2
 returns-2 c =
-    let g = c .before .before in
-    let r = g .before in
-    let f = r .before .before in
+    let t = c .before in
+    let f = t .before in
     let s = start f in
-    reciprocal-step (s .args .squares) (s .args .table .now) (s .args .ranges .now) (s .args .own) (s .args .t)
-    (number-is (fields-fit s .0) (omega arith) (r .before .if2 .taken))
-    (g .get-row .ensures ∙ named-is (first-named f) (first-cast f .is) (s .args .table .now))
-    (r .get-range .ensures ∙ named-range-is (first-named f) (first-cast f .is) (s .args .ranges .now))
-    (c .invert .ensures)
+    unary-step (s .args .squares) (s .args .table .now) (s .args .ranges .now) (s .args .own) (s .args .t)
+    (number-above (fields-fit s .0) (t .if2 .taken))
+    (named-is (first-named f) (first-cast f .is) (s .args .table .now))
+    (named-range-is (first-named f) (first-cast f .is) (s .args .ranges .now))
+    (rw (toZ-ofZ w64 _ (fields-fit s .0)) at (c .unary-answer .ensures))
 
 cast-second : tie.Need-cast-second
 cast-second c = second-cast c .fits
@@ -131,7 +104,7 @@ returns-3 c =
     let p = c .before in
     let f = earlier p in
     let s = start f in
-    binary-step (s .args .squares) (s .args .table .now) (s .args .ranges .now) (s .args .own) (s .args .t) (not-constant f) (not-reciprocal p)
+    binary-step (s .args .squares) (s .args .table .now) (s .args .ranges .now) (s .args .own) (s .args .t) (not-constant f) (binary p)
     (named-is (first-named f) (first-cast f .is) (s .args .table .now))
     (named-is (second-named p) (second-cast p .is) (s .args .table .now))
     (rw (toZ-ofZ w64 _ (fields-fit s .0)) at (c .binary-answer .ensures))
@@ -143,14 +116,8 @@ step-answer-spec =
     constant-requires
     returns
     cast-first
-    sub-get-range
-    get-range-requires
-    sub-get-row
-    get-row-requires
-    sub-x-radius
-    mul-x-radius
-    shared-slice-read-x-radius
-    invert-requires
+    sub-unary-answer
+    unary-answer-requires
     returns-2
     cast-second
     sub-binary-answer
