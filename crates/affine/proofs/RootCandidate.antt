@@ -53,7 +53,7 @@ unfolding unitRoot
 unit-root-not-above {v = pos n} h = pos-≤ℤ (is-root (unit * n) .not-above)
 unit-root-not-above {v = negsuc n} h = absurd (h .le)
 
-pub unit-root-within : {v : ℤ} {n : ℕ} → pos 1 ≤ℤ v → natAbs v ≤ n → unitRoot v ≤ unit * n
+unit-root-within : {v : ℤ} {n : ℕ} → pos 1 ≤ℤ v → natAbs v ≤ n → unitRoot v ≤ unit * n
 unit-root-within {v} h k = let r = unitRoot v in omega (arith, unit-root-square h k, mul-le-mul {n₁ = 1} {m₁ = r} (unit-root-some h) (le-refl r))
 
 pub unit-root-limit : {v : ℤ} → pos 1 ≤ℤ v → natAbs v ≤ spanLimit → unitRoot v ≤ spanLimit

@@ -1,12 +1,12 @@
 -- A root's row encloses the exact root. Whole numbers r with r² ≤ 4096 X < (r + 1)² stand for the exact root of X units, so that no root but that of
 -- whole numbers is asked for: the candidate's form Z is not below 0, its square differs from 4096 X by at most the error bound, and r + Z is at
 -- least the root of 4096 times the low end. All in units, over any ordered ring.
-use mathlib.Core.Path.{_≡_, refl, sym, ap, ap₂, _∙_, subst}
-use mathlib.Core.Bool.{Bool, true, false}
+use mathlib.Core.Path.{_≡_, sym, ap, subst}
+use mathlib.Core.Bool.{false}
 use mathlib.Core.List.{List, [], _∷_}
-use Prim.Native.Nat.{ℕ, suc, _+_, _*_, _≤_, _<_}
+use Prim.Native.Nat.{ℕ, suc, _*_, _≤_, _<_}
 use native.Mathlib.Omega.{arith}
-use lib.IntN.{ℤ, pos, negsuc, negℤ, _+ℤ_, _-ℤ_, _*ℤ_, *ℤ-zero}
+use lib.IntN.{ℤ, pos, negsuc, _+ℤ_, _*ℤ_}
 use lib.ListN.{length}
 use Rattle.integer.specs.Floor.{ceilingQuotient}
 use Rattle.integer.proofs.Ring.{CommutativeRing, con, _⊕_, _⊖_, _⊗_, neg, _≐_, ring}
@@ -14,20 +14,20 @@ use Rattle.integer.proofs.IntegerRing.{negℤ-is-product}
 use Rattle.integer.proofs.Certificate.{OrderedRing, certify, hyp, eqn, nat, _⊞_, _⊠_, _≼_, _≋_, _⊢_}
 use Rattle.integer.proofs.Order.{pos-≤ℤ}
 use Rattle.integer.proofs.Machine.{≥ℤ-of-test}
-use Rattle.integer.proofs.Bound.{Bound, bound-add, bound-cong, bound-minus, le-cong, le-trans, whole-nonneg, whole-minus, whole-le, cancel-le}
+use Rattle.integer.proofs.Bound.{Bound, bound-add, bound-cong, bound-minus, le-cong, le-trans, whole-nonneg, whole-le, cancel-le}
 use Rattle.integer.proofs.Sum.{dot, dot-path}
 use Rattle.affine.specs.declared.Row.{Row}
 use Rattle.affine.specs.Limits.{symbols, paired, pairs, unit}
-use Rattle.affine.specs.Lists.{pick, at, tabulate}
-use Rattle.affine.specs.PairOrder.{inUse}
+use Rattle.affine.specs.Lists.{at, tabulate}
 use Rattle.affine.specs.Row.{low}
-use Rattle.affine.specs.Product.{linearTotals, pairTotal, pairTotals, totals, dropped}
-use Rattle.affine.specs.Root.{unitRoot, rootSlope, rootCandidate, missed, linearMisses, pairMiss, pairMisses, misses, squareError, rootOwn, rootRow, startsBelowZero}
+use Rattle.affine.specs.Product.{linearTotals, pairTotals, totals}
+use Rattle.affine.specs.Root.{unitRoot, rootCandidate, missed, linearMisses, misses, squareError, rootOwn, rootRow, startsBelowZero}
 use Rattle.affine.proofs.Lists.{tabulate-cong, tabulate-at}
 use Rattle.affine.proofs.Dot.{dot-tabulate-add, dot-tabulate-scale}
 use Rattle.affine.proofs.Form.{Shaped, UsesOnly, pairValue, units}
 use Rattle.affine.proofs.FormBounds.{Unit-symbols, units-within-span}
 use Rattle.affine.proofs.RangeLaws.{low-holds-value}
+use Rattle.affine.proofs.SquareError.{pair-missed}
 use Rattle.affine.proofs.Enclosure.{units-withOwn, ceiling-enough, product-near-totals}
 use Rattle.affine.proofs.WellFormed.{root-candidate-shaped, root-candidate-uses}
 
@@ -48,17 +48,6 @@ module _ (𝓡 : CommutativeRing) where
       dot-path 𝓡 w (tabulate-cong n (λ i l. less (at a i) (t i)))
       ⨟ dot-tabulate-add 𝓡 n (λ i. pos unit *ℤ at a i) (λ i. negsuc 0 *ℤ t i) w
       ⨟ add-cong (dot-tabulate-scale 𝓡 n (pos unit) (at a) w ⨟ mul-cong (rfl _) (dot-path 𝓡 w (tabulate-at a n h))) (dot-tabulate-scale 𝓡 n (negsuc 0) t w)
-
-  -- a pair that is not in use misses nothing
-  pair-missed : (squares : ℕ) (x z : Row) → UsesOnly squares x
-      → pairMisses squares x z ≡ tabulate pairs (λ k. missed (at (x .pair) k) (pick (inUse squares k) (pairTotal z z k) (pos 0)))
-  unfolding pairMisses
-  pair-missed squares x z ux = tabulate-cong pairs (λ k h. by-use k h (inUse squares k) (λ e. ux .unused k h e))
-    where
-      by-use : (k : ℕ) → k < pairs → (t : Bool) → (t ≡ false → at (x .pair) k ≡ pos 0)
-          → pick t (pairMiss x z k) (pos 0) ≡ missed (at (x .pair) k) (pick t (pairTotal z z k) (pos 0))
-      by-use k h true u = refl
-      by-use k h false u = rw (u refl) refl
 
   misses-units : (squares : ℕ) (x z : Row) → Shaped x → UsesOnly squares x → (ε : ℕ → C)
       → units 𝓡 (misses squares x z) ε ~ whole (pos unit) · units 𝓡 x ε ⊹ minus (units 𝓡 (totals squares z z) ε)

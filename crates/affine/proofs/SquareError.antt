@@ -1,5 +1,6 @@
--- B of a root, the bound of 4096 times operand less candidate times candidate: the sum of its four parts, and its size.
-use mathlib.Core.Path.{_≡_, ap, ap₂}
+-- B of a root, the bound of 4096 times operand less candidate times candidate: the sum of its four parts, its size, and that it leaves out no number of
+-- a row that uses only pairs in use.
+use mathlib.Core.Path.{_≡_, refl, sym, ap, ap₂, _∙_}
 use mathlib.Core.Bool.{Bool, true, false}
 use mathlib.Core.List.{[]}
 use Prim.Native.Nat.{ℕ, _+_, _*_, _≤_}
@@ -9,11 +10,14 @@ use Rattle.integer.specs.Sum.{sumAbs}
 use Rattle.integer.proofs.Absolute.{natAbs-mul, natAbs-sub}
 use Rattle.affine.specs.declared.Row.{Row}
 use Rattle.affine.specs.Limits.{symbols, pairs, unit}
-use Rattle.affine.specs.Lists.{pick, at}
+use Rattle.affine.specs.Lists.{pick, at, tabulate}
 use Rattle.affine.specs.PairOrder.{inUse}
 use Rattle.affine.specs.Row.{span, rowOfParts, NoneFrom}
-use Rattle.affine.specs.Product.{linearTotal, linearTotals, pairTotal, pairTotals, dropped}
+use Rattle.affine.specs.Steps.{zipRows}
+use Rattle.affine.specs.Product.{linearTotal, linearTotals, pairTotal, pairTotals, totals, dropped}
 use Rattle.affine.specs.Root.{missed, linearMiss, linearMisses, pairMiss, pairMisses, misses, squareError}
+use Rattle.affine.proofs.Lists.{tabulate-cong, at-tabulate}
+use Rattle.affine.proofs.Form.{UsesOnly}
 use Rattle.affine.proofs.RowSize.{span-is-sum}
 use Rattle.affine.proofs.SumLaws.{sumAbs-tabulate-at, sumAbs-tabulate-within}
 use Rattle.affine.proofs.Magnitude.{totals-within}
@@ -83,3 +87,27 @@ square-error-within squares x z hx hz =
       span-is-sum x,
       totals-within squares z z hz hz,
     )
+
+-- ---- no number is left out: a pair that is not in use has no coefficient, and misses nothing
+module _ (squares : ℕ) (x z : Row) (ux : UsesOnly squares x) where
+  pub pair-missed : pairMisses squares x z ≡ tabulate pairs (λ k. missed (at (x .pair) k) (pick (inUse squares k) (pairTotal z z k) (pos 0)))
+  unfolding pairMisses
+  pair-missed = tabulate-cong pairs (λ k h. by-use k (inUse squares k) (λ e. ux .unused k h e))
+    where
+      by-use : (k : ℕ) (t : Bool) → (t ≡ false → at (x .pair) k ≡ pos 0)
+          → pick t (pairMiss x z k) (pos 0) ≡ missed (at (x .pair) k) (pick t (pairTotal z z k) (pos 0))
+      by-use k true u = refl
+      by-use k false u = rw (u refl) refl
+
+  linear-missed : linearMisses x z ≡ tabulate symbols (λ i. missed (at (x .linear) i) (at (linearTotals z z) i))
+  unfolding linearMisses linearTotals
+  linear-missed = tabulate-cong symbols (λ i h. ap (missed (at (x .linear) i)) (sym (at-tabulate symbols (linearTotal z z) i h)))
+
+  pair-missed-of-totals : pairMisses squares x z ≡ tabulate pairs (λ k. missed (at (x .pair) k) (at (pairTotals squares z z) k))
+  unfolding pairTotals
+  pair-missed-of-totals =
+      pair-missed
+      ∙ tabulate-cong pairs (λ k h. ap (missed (at (x .pair) k)) (sym (at-tabulate pairs (λ k. pick (inUse squares k) (pairTotal z z k) (pos 0)) k h)))
+
+  pub misses-of-totals : misses squares x z ≡ zipRows missed x (totals squares z z)
+  misses-of-totals = λ i. record { centre = missed (x .centre) (z .centre *ℤ z .centre); linear = linear-missed i; pair = pair-missed-of-totals i }

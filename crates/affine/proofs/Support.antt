@@ -6,7 +6,6 @@ use mathlib.Core.Bool.{Bool, true, false}
 use mathlib.Core.List.{List, [], _∷_, map}
 use Prim.Native.Nat.{ℕ, zero, suc, _<_}
 use native.Mathlib.Decide.{ℕ-discrete}
-use native.Mathlib.Omega.{arith}
 use lib.Dec.{eqb}
 use lib.IntN.{ℤ, pos, negℤ, _+ℤ_, _*ℤ_, *ℤ-zero, zero-*ℤ}
 use lib.ListN.{replicate}
@@ -16,7 +15,7 @@ use Rattle.integer.proofs.Floor.{zero-quotient}
 use Rattle.integer.proofs.Ring.{CommutativeRing, _⊕_, _≐_, ring}
 use Rattle.affine.specs.declared.Row.{Row}
 use Rattle.affine.specs.Limits.{symbols, pairs, unit}
-use Rattle.affine.specs.Lists.{pick, at, tabulate}
+use Rattle.affine.specs.Lists.{pick, at}
 use Rattle.affine.specs.PairOrder.{firstOf, secondOf, inUse}
 use Rattle.affine.specs.Steps.{constantRow, withOwn, inputRow, inputCentre, zipRows, mapRow}
 use Rattle.affine.specs.Product.{meeting, linearTotals, pairTotals, totals, productRounding, productRow}

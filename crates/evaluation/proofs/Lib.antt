@@ -23,4 +23,5 @@ pub mod FractionUnits
 pub mod RowEnclosure
 pub mod Demand3
 pub mod RootStarts
+pub mod RootMisses
 pub mod Examples

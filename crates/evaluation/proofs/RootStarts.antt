@@ -1,10 +1,9 @@
 -- No sheet meets the second half of cause 12: a row's own range is an input's ends or that of its form, and both have the law of `affine`.
-use mathlib.Core.Path.{_≡_, refl, sym, ap, _∙_, subst}
+use mathlib.Core.Path.{_≡_, sym, ap, _∙_, subst}
 use mathlib.Core.Bool.{false}
 use Prim.Native.Nat.{ℕ, _<_}
 use lib.IntN.{pos}
 use Rattle.integer.proofs.Machine.{≥ℤ-of-test}
-use Rattle.affine.specs.declared.Row.{Row}
 use Rattle.affine.specs.declared.Range.{Range}
 use Rattle.affine.specs.Steps.{constantRow}
 use Rattle.affine.specs.Root.{rootCandidate, belowOne, startsBelowZero}

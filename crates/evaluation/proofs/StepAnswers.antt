@@ -2,7 +2,7 @@
 -- range read where its fields say.
 use mathlib.Core.Path.{_≡_, sym, ap, ap₂, _∙_, subst}
 use mathlib.Core.List.{List}
-use Prim.Native.Nat.{ℕ, _+_, _*_, _-_, _≤_, _<_}
+use Prim.Native.Nat.{ℕ, _-_, _≤_, _<_}
 use native.Mathlib.Omega.{arith}
 use borrow.Author.Tests.{ne-eqb, le-leb, lt-leb}
 use lib.IntN.{ℤ, pos}
@@ -21,7 +21,7 @@ use Rattle.sheet.specs.declared.Schedule.{Schedule}
 use Rattle.sheet.specs.Lines.{natural, endsAt, stepAt}
 use Rattle.sheet.specs.Limits.{lastBinary}
 use Rattle.sheet.proofs.Passing.{Natural}
-use Rattle.evaluation.specs.Table.{rowWidth, rangeWidth, rowAt, rangeAt, rowsIn, rangesIn, RowsWithin, Operands, RangesOf}
+use Rattle.evaluation.specs.Table.{rowAt, rangeAt, rowsIn, rangesIn, RowsWithin, Operands, RangesOf}
 use Rattle.evaluation.specs.Work.{ownRanges, namedRow, namedRange, binaryAnswer, unaryAnswer, stepAnswer, rowAnswer}
 use Rattle.evaluation.proofs.RowLines.{rowAnswer-input, rowAnswer-step}
 use Rattle.evaluation.proofs.OwnRanges.{noRange}

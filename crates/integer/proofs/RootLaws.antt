@@ -1,5 +1,5 @@
 -- The whole-number root: r² ≤ n < (r + 1)² holds of it, and of no other number; the gap that a search halves; and the root of a fraction.
-use mathlib.Core.Path.{_≡_, refl, sym, ap, _∙_}
+use mathlib.Core.Path.{_≡_, refl}
 use mathlib.Core.Bool.{Bool, true, false}
 use Prim.Native.Nat.{ℕ, zero, suc, _+_, _*_, _-_, _/_, _^_, _≤_, _<_}
 use native.Mathlib.Nat.{le-refl, mul-le-mul, div-add-mod', lt-div-mul-add}
@@ -25,7 +25,7 @@ below-of-squares r s h = by-test (ltb r s) refl
     by-test true e = ltb-true r s e
     by-test false e = let l = ltb-false r s e in absurd (omega (arith, mul-le-mul l l))
 
-pub roots-agree : {n r s : ℕ} → IsRoot n r → IsRoot n s → r ≡ s
+roots-agree : {n r s : ℕ} → IsRoot n r → IsRoot n s → r ≡ s
 roots-agree {n} {r} {s} a b =
     let l = below-of-squares r (suc s) (omega (arith, a .not-above, b .next-above)) in
     let m = below-of-squares s (suc r) (omega (arith, b .not-above, a .next-above)) in

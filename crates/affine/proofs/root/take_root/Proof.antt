@@ -1,5 +1,5 @@
 -- `take_root` meets its contract: a low end below 1 is refused, and from any other the root is taken.
-use mathlib.Core.Path.{_≡_, sym, ap, _∙_}
+use mathlib.Core.Path.{_≡_, ap, _∙_}
 use mathlib.Core.Bool.{true, false}
 use mir.Syntax.{w64}
 use mir.Val.{toZ, ofZ}

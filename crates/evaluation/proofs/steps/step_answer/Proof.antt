@@ -1,6 +1,6 @@
 -- `step_answer` tests the code as its definition does; the rows that it hands on are those that the step names, for what is read back from the bits of a
 -- field that passed is the field's number.
-use mathlib.Core.Path.{_≡_, _∙_}
+use mathlib.Core.Path.{_≡_}
 use Prim.Native.Nat.{_-_, _≤_, _<_}
 use native.Mathlib.Omega.{arith}
 use lib.IntN.{natAbs}

@@ -1,5 +1,4 @@
 -- `root` meets its contract: the loop halves the gap in which the root lies.
-use mathlib.Core.Path.{_≡_, refl}
 use native.Mathlib.Omega.{arith}
 use borrow.Author.Needs.{needs}
 use Rattle.integer.proofs.RootLaws.{Gap, gap-whole, half-within, half-square, gap-upper, gap-lower, gap-closed}
