@@ -1,14 +1,11 @@
--- Totals divided under the rounding rule of a product: a total of 0 leaves nothing, a remainder is small, and the totals of all symbols, or of all pairs in use,
--- are divided each by itself.
-use mathlib.Core.Path.{_≡_, refl}
+-- Totals divided under the rounding rule of a product: the remainders are small, and the totals of all symbols, or of all pairs in use, are divided each by itself.
+use mathlib.Core.Path.{_≡_}
 use mathlib.Core.List.{List, [], _∷_, map}
-use Prim.Native.Nat.{ℕ, _*_, _≤_, _<_}
+use Prim.Native.Nat.{ℕ, _*_, _≤_}
 use native.Mathlib.Omega.{arith}
-use lib.IntN.{ℤ, pos, natAbs}
+use lib.IntN.{ℤ, pos}
 use lib.ListN.{length}
-use Rattle.integer.specs.Floor.{floorQuotient, floorRemainder}
 use Rattle.integer.specs.Sum.{sumAbs}
-use Rattle.integer.proofs.Floor.{natAbs-remainder, zero-quotient}
 use Rattle.affine.specs.declared.Row.{Row}
 use Rattle.affine.specs.Limits.{symbols, unit}
 use Rattle.affine.specs.Lists.{tabulate}
@@ -16,6 +13,7 @@ use Rattle.affine.specs.PairOrder.{overUsed}
 use Rattle.affine.specs.Product.{linearTotal, linearTotals, pairTotal, pairTotals, productRounding}
 use Rattle.affine.proofs.Lists.{map-tabulate}
 use Rattle.affine.proofs.Columns.{map-used}
+use Rattle.affine.proofs.Rounding.{product-rounds}
 
 abbrev pub quotients : List ℤ → List ℤ
 quotients t = map (productRounding .quotient) t
@@ -23,19 +21,9 @@ quotients t = map (productRounding .quotient) t
 abbrev pub remainders : List ℤ → List ℤ
 remainders t = map (productRounding .remainder) t
 
-pub quotient-zero : productRounding .quotient (pos 0) ≡ pos 0
-quotient-zero = zero-quotient (pos unit)
-
-pub remainder-zero : productRounding .remainder (pos 0) ≡ pos 0
-unfolding floorQuotient floorRemainder
-remainder-zero = refl
-
-pub remainder-small : (t : ℤ) → natAbs (productRounding .remainder t) < unit
-remainder-small t = natAbs-remainder t (pos unit) (λ e. let z : _≡_ {A = ℕ} 0 1 = cc in omega arith)
-
 pub remainders-within : (t : List ℤ) → sumAbs (remainders t) ≤ unit * length t
 remainders-within [] = omega arith
-remainders-within (x ∷ t) = let h = remainders-within t in omega (arith, remainder-small x)
+remainders-within (x ∷ t) = let h = remainders-within t in omega (arith, product-rounds .remainder-small x)
 
 -- ---- each total by itself, by a function that leaves 0
 module _ (h : ℤ → ℤ) (x y : Row) where

@@ -1,19 +1,19 @@
 -- Each operation's row encloses the exact result: where the operands' exact values are their forms' at symbols that all lie from -1 to 1,
 -- and the row's own symbol is 0, the exact result differs from the new form by at most the own coefficient. All in units, over any ordered
--- ring; multiply and reciprocal rest on one product law, and the rounding rule enters by one equation.
-use mathlib.Core.Path.{_≡_, sym, ap, _∙_, subst}
+-- ring; multiply and reciprocal rest on one product law, and of the rounding rule one equation is used.
+use mathlib.Core.Path.{_≡_, sym, _∙_, subst}
 use mathlib.Core.Bool.{false}
 use mathlib.Core.List.{[], _∷_}
 use mathlib.Core.Logic.{_⊎_, inl, inr}
 use Prim.Native.Nat.{ℕ, _+_, _≤_, _<_}
 use native.Mathlib.Nat.{mul-comm}
 use native.Mathlib.Omega.{arith}
-use lib.IntN.{ℤ, pos, negsuc, negℤ, _+ℤ_, _*ℤ_, *ℤ-comm}
-use Rattle.integer.specs.Floor.{floorQuotient, floorRemainder, ceilingQuotient}
+use lib.IntN.{ℤ, pos, negsuc, negℤ, _+ℤ_, _*ℤ_}
+use Rattle.integer.specs.Floor.{ceilingQuotient}
 use Rattle.integer.proofs.Ring.{CommutativeRing, con, _⊕_, _⊖_, _⊗_, neg, _≐_, ring}
 use Rattle.integer.proofs.Certificate.{OrderedRing, certify, hyp, eqn, nat, _⊞_, _⊠_, _≼_, _≋_, _⊢_}
 use Rattle.integer.proofs.Order.{pos-≤ℤ}
-use Rattle.integer.proofs.Floor.{floor-divides, ceiling-covers}
+use Rattle.integer.proofs.Floor.{ceiling-covers}
 use Rattle.integer.proofs.Bound.{Bound, bound-add, bound-minus, bound-cong, bound-weaken, bound-divide, le-cong, le-trans, whole-nonneg, whole-minus, whole-le, cancel-le}
 use Rattle.affine.specs.declared.Row.{Row}
 use Rattle.affine.specs.declared.Range.{Range}
@@ -27,19 +27,7 @@ use Rattle.integer.proofs.Sum.{dot-split, dot-set}
 use Rattle.affine.proofs.Form.{Shaped, UsesOnly, pairValue, units, product-is-totals}
 use Rattle.affine.proofs.FormBounds.{Unit-symbols, units-within-span, lost-within-dropped}
 use Rattle.affine.proofs.Distance.{distance-is-end}
-
--- the one fact that a rounding rule is asked for: t = 4096 q + r
-pub record Rounds (ρ : Rounding) : Type 0 where
-  pub parts : (t : ℤ) → t ≡ pos unit *ℤ ρ .quotient t +ℤ ρ .remainder t
-
-pub product-rounds : Rounds productRounding
-product-rounds =
-    record {
-      parts = λ t. sym (floor-divides t (pos unit) (λ e. nonzero e) .total) ∙ ap (λ q. q +ℤ floorRemainder t (pos unit)) (*ℤ-comm (floorQuotient t (pos unit)) (pos unit));
-    }
-  where
-    nonzero : pos unit ≡ pos 0 → ⊥
-    nonzero e = let n : unit ≡ 0 = cc in omega arith
+use Rattle.affine.proofs.Rounding.{Rounds, product-rounds}
 
 pub candidate-shaped : (squares : ℕ) (x : Row) → Shaped (candidate squares x)
 unfolding candidateLinear candidatePair

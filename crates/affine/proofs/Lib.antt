@@ -24,6 +24,7 @@ pub mod RootStarts
 pub mod ErrorBound
 pub mod SquareError
 pub mod Distance
+pub mod Rounding
 pub mod Divided
 pub mod ProductError
 pub mod SpanSize

@@ -12,7 +12,8 @@ use Rattle.affine.specs.Product.{linearTotals, pairTotals, totals, dropp
 use Rattle.affine.proofs.RowSize.{span-is-sum}
 use Rattle.affine.proofs.Magnitude.{totals-within}
 use Rattle.affine.proofs.Totals.{length-linear-totals, length-pair-totals}
-use Rattle.affine.proofs.Divided.{remainders, remainder-small, remainders-within}
+use Rattle.affine.proofs.Rounding.{product-rounds}
+use Rattle.affine.proofs.Divided.{remainders, remainders-within}
 
 module _ (squares : ℕ) (x y : Row) where
   -- the remainders of all totals
@@ -28,7 +29,7 @@ module _ (squares : ℕ) (x y : Row) where
         arith,
         remainders-are-sum,
         totals-within squares x y hx hy,
-        remainder-small (x .centre *ℤ y .centre),
+        product-rounds .remainder-small (x .centre *ℤ y .centre),
         remainders-within (linearTotals x y),
         remainders-within (pairTotals squares x y),
         length-linear-totals x y,

@@ -3,7 +3,7 @@ use mathlib.Core.Path.{_≡_}
 use Prim.Native.Nat.{ℕ, _+_, _*_, _≤_, _<_}
 use native.Mathlib.Omega.{arith}
 use lib.IntN.{ℤ, pos, natAbs}
-use Rattle.integer.proofs.Floor.{natAbs-quotient, ceiling-at-most}
+use Rattle.integer.proofs.Floor.{ceiling-at-most}
 use Rattle.affine.specs.declared.Row.{Row}
 use Rattle.affine.specs.Limits.{symbols, pairs, unit}
 use Rattle.affine.specs.Row.{span}
@@ -13,6 +13,7 @@ use Rattle.affine.proofs.RowSize.{span-is-sum}
 use Rattle.affine.proofs.SumLaws.{sumAbs-set, sumAbs-map, sumAbs-zeros}
 use Rattle.affine.proofs.Termwise.{joined-within}
 use Rattle.affine.proofs.Magnitude.{totals-within}
+use Rattle.affine.proofs.Rounding.{product-rounds}
 use Rattle.affine.proofs.ProductError.{allRemainders, error-within}
 
 -- the row that the code made is the one that was meant
@@ -49,7 +50,7 @@ span-product squares own x y hx hy =
     omega (
       arith,
       span-own own (pos (productOwn squares x y)) (mapRow (productRounding .quotient) t),
-      span-map (productRounding .quotient) (λ z. natAbs-quotient z (pos unit)) t,
+      span-map (productRounding .quotient) (product-rounds .quotient-within) t,
       span-is-sum t,
       totals-within squares x y hx hy,
       ceiling-at-most (dropped squares x y + allRemainders squares x y) unit (omega arith),

@@ -14,7 +14,7 @@ use Rattle.integer.specs.Floor.{floorQuotient}
 use Rattle.integer.proofs.Floor.{zero-quotient}
 use Rattle.integer.proofs.Ring.{CommutativeRing, _⊕_, _≐_, ring}
 use Rattle.affine.specs.declared.Row.{Row}
-use Rattle.affine.specs.Limits.{symbols, pairs, unit}
+use Rattle.affine.specs.Limits.{symbols, pairs}
 use Rattle.affine.specs.Lists.{pick, at}
 use Rattle.affine.specs.PairOrder.{firstOf, secondOf, inUse}
 use Rattle.affine.specs.Steps.{constantRow, withOwn, inputRow, inputCentre, zipRows, mapRow}
@@ -23,6 +23,7 @@ use Rattle.affine.specs.Reciprocal.{slope, candidateLinear, candidatePai
 use Rattle.integer.proofs.Sum.{dot-same, dot-change}
 use Rattle.affine.specs.Root.{unitRoot, rootSlope, rootCandidate, rootRow}
 use Rattle.affine.proofs.Lists.{at-tabulate-zero}
+use Rattle.affine.proofs.Rounding.{quotient-zero}
 use Rattle.affine.proofs.Candidate.{slope-zero}
 use Rattle.affine.proofs.RootCandidate.{root-slope-zero}
 use Rattle.affine.proofs.Form.{Shaped, pairValue, units}
@@ -106,7 +107,7 @@ pub product-free : (n squares own : ℕ) (x y : Row) → n ≢ own → FreeOf n 
 unfolding productRow
 product-free n squares own x y d hx hy =
     withOwn-free n own _ (mapRow (productRounding .quotient) (totals squares x y)) d
-    (map-free n (productRounding .quotient) (zero-quotient (pos unit)) (totals squares x y) (totals-free n squares x y hx hy))
+    (map-free n (productRounding .quotient) quotient-zero (totals squares x y) (totals-free n squares x y hx hy))
 
 pub candidateLinear-zero : (x : Row) (n : ℕ) → at (x .linear) n ≡ pos 0 → at (candidateLinear x) n ≡ pos 0
 unfolding candidateLinear

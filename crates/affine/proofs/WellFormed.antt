@@ -7,11 +7,10 @@ use lib.IntN.{ℤ, pos, _-ℤ_}
 use lib.Signed.{_≤ℤ_}
 use lib.ListN.{length, replicate, length-set, length-map}
 use lib.Seq.{getD-set-same}
-use Rattle.integer.proofs.Floor.{zero-quotient}
 use Rattle.integer.proofs.Linear.{linℤ, _⊴_, _⇒_, so}
 use Rattle.integer.proofs.Ring.{con, _⊕_, _⊖_, _⊗_}
 use Rattle.affine.specs.declared.Row.{Row}
-use Rattle.affine.specs.Limits.{symbols, pairs, unit}
+use Rattle.affine.specs.Limits.{symbols, pairs}
 use Rattle.affine.specs.Lists.{at}
 use Rattle.affine.specs.Steps.{constantRow, withOwn, inputRow, inputCentre, zipRows, mapRow}
 use Rattle.affine.specs.Product.{linearTotals, pairTotals, totals, productRounding, productOwn, productRow}
@@ -19,6 +18,7 @@ use Rattle.affine.specs.Reciprocal.{candidate, reciprocalOwn, reciprocal
 use Rattle.affine.specs.Root.{unitRoot, rootSlope, rootCandidate, rootOwn, rootRow}
 use Rattle.affine.proofs.Lists.{length-tabulate, at-tabulate}
 use Rattle.affine.proofs.Form.{Shaped, UsesOnly}
+use Rattle.affine.proofs.Rounding.{quotient-zero}
 use Rattle.affine.proofs.Support.{FreeOf, NoPairOf, at-map, at-replicate, totals-free, map-free, candidate-free, root-candidate-free}
 use Rattle.affine.proofs.RootCandidate.{root-slope-zero}
 use Rattle.affine.proofs.Enclosure.{candidate-shaped, candidate-uses}
@@ -80,7 +80,7 @@ totals-uses squares x y = record { unused = λ k h e. at-tabulate pairs _ k h �
 pub product-uses : (squares own : ℕ) (x y : Row) → UsesOnly squares (productRow squares own x y)
 unfolding productRow
 product-uses squares own x y =
-    record { unused = λ k h e. at-map (productRounding .quotient) (zero-quotient (pos unit)) (pairTotals squares x y) k (totals-uses squares x y .unused k h e) }
+    record { unused = λ k h e. at-map (productRounding .quotient) quotient-zero (pairTotals squares x y) k (totals-uses squares x y .unused k h e) }
 
 pub reciprocal-uses : (squares own : ℕ) (x : Row) (a : ℕ) → UsesOnly squares (reciprocalRow squares own x a)
 unfolding reciprocalRow
@@ -127,7 +127,7 @@ input-no-pair n own low high = record { pair = λ k h p. at-replicate pairs k }
 pub product-no-pair : (n squares own : ℕ) (x y : Row) → FreeOf n x → FreeOf n y → NoPairOf n (productRow squares own x y)
 unfolding productRow
 product-no-pair n squares own x y hx hy =
-    record { pair = map-free n (productRounding .quotient) (zero-quotient (pos unit)) (totals squares x y) (totals-free n squares x y hx hy) .pair }
+    record { pair = map-free n (productRounding .quotient) quotient-zero (totals squares x y) (totals-free n squares x y hx hy) .pair }
 
 pub reciprocal-no-pair : (n squares own : ℕ) (x : Row) (a : ℕ) → FreeOf n x → NoPairOf n (reciprocalRow squares own x a)
 unfolding reciprocalRow

@@ -18,7 +18,8 @@ use Rattle.affine.specs.Steps.{checked}
 use Rattle.affine.specs.Product.{linearTotals, pairTotals, dropped, productRounding, productOwn, productRow}
 use Rattle.affine.proofs.RowSize.{linear-within-radius, radius-within, unpaired-within}
 use Rattle.affine.proofs.Totals.{length-linear-totals, linear-totals-of-parts, pair-totals-of-parts, dropped-of-radii}
-use Rattle.affine.proofs.Divided.{quotients, remainders, remainder-small, remainders-within}
+use Rattle.affine.proofs.Rounding.{product-rounds}
+use Rattle.affine.proofs.Divided.{quotients, remainders, remainders-within}
 use Rattle.affine.proofs.Magnitude.{centre-product-within}
 use Rattle.affine.proofs.ProductError.{allRemainders, remainders-are-sum, error-within}
 use Rattle.affine.proofs.SpanSize.{span-as, span-product}
@@ -108,7 +109,7 @@ add-remainders c =
       arith,
       centre-left c,
       linear-left c,
-      remainder-small (centre (from c)),
+      product-rounds .remainder-small (centre (from c)),
       remainders-within (linearTotals x y),
       length-linear-totals x y,
     )

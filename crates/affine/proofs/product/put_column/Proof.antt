@@ -17,7 +17,8 @@ use Rattle.affine.specs.Row.{rowOfParts}
 use Rattle.affine.specs.Product.{pairTotal, pairTotals, productRounding}
 use Rattle.affine.proofs.Totals.{length-pair-totals}
 use Rattle.affine.proofs.LentRows.{LentRows, lentRows, given-x, given-y, read-x, read-y, read-x-within, read-y-within, read-as-given}
-use Rattle.affine.proofs.Divided.{quotient-zero, remainder-zero, remainders-within, map-pair-totals}
+use Rattle.affine.proofs.Rounding.{quotient-zero, remainder-zero}
+use Rattle.affine.proofs.Divided.{remainders-within, map-pair-totals}
 use Rattle.affine.proofs.Columns.{AtPair, at-first, at-next, at-symbols, column, length-column, column-none, column-zero, column-more, column-all, column-sum-more, column-sum-within}
 use Rattle.affine.proofs.product.put_column.Statement.{statement}
 use Rattle.affine.proofs.product.put_column.Tie as tie

@@ -16,7 +16,8 @@ use Rattle.affine.specs.Row.{rowOfParts}
 use Rattle.affine.specs.Product.{linearTotal, linearTotals, productRounding}
 use Rattle.affine.proofs.Totals.{length-linear-totals, linear-total-none}
 use Rattle.affine.proofs.LentRows.{LentRows, lentRows, given-x, given-y, read-x, read-y, read-x-within, read-y-within, read-as-given}
-use Rattle.affine.proofs.Divided.{quotient-zero, remainder-zero, remainders-within, map-linear-totals}
+use Rattle.affine.proofs.Rounding.{quotient-zero, remainder-zero}
+use Rattle.affine.proofs.Divided.{remainders-within, map-linear-totals}
 use Rattle.affine.proofs.PutSoFar.{front, length-front, front-none, front-zero, front-more, front-all, front-sum-none, front-sum-more, front-sum-within}
 use Rattle.affine.proofs.product.put_linear.Statement.{statement}
 use Rattle.affine.proofs.product.put_linear.Tie as tie

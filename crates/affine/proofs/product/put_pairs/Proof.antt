@@ -17,7 +17,8 @@ use Rattle.affine.proofs.SumLaws.{sumAbs-zeros}
 use Rattle.affine.proofs.Totals.{length-pair-totals}
 use Rattle.affine.proofs.LentRows.{LentRows, lentRows, given-x, given-y, read-x, read-y, read-x-within, read-y-within, read-as-given}
 use Rattle.affine.proofs.Columns.{used-none}
-use Rattle.affine.proofs.Divided.{quotients, remainders, quotient-zero, remainder-zero, map-pair-totals}
+use Rattle.affine.proofs.Rounding.{quotient-zero, remainder-zero}
+use Rattle.affine.proofs.Divided.{quotients, remainders, map-pair-totals}
 use Rattle.affine.proofs.product.put_pairs.Statement.{statement}
 use Rattle.affine.proofs.product.put_pairs.Tie as tie
 

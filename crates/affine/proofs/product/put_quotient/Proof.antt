@@ -8,7 +8,7 @@ use mir.Val.{toZ, ofZ}
 use mir.ValLaws.{toZ-ofZ}
 use borrow.Author.Needs.{needs}
 use Rattle.integer.proofs.Machine.{back}
-use Rattle.affine.proofs.Divided.{quotient-zero, remainder-zero}
+use Rattle.affine.proofs.Rounding.{quotient-zero, remainder-zero}
 use Rattle.affine.proofs.product.put_quotient.Statement.{statement}
 use Rattle.affine.proofs.product.put_quotient.Tie as tie
 
