@@ -12,8 +12,8 @@ use Rattle.integer.specs.Floor.{floorQuotient}
 use Rattle.integer.proofs.Absolute.{fits-of-natAbs}
 use Rattle.integer.proofs.Floor.{natAbs-quotient}
 use Rattle.integer.proofs.Truncated.{floorQuotient-fits}
-use Rattle.floor_edges.proofs.print_floor.Statement.{statement}
-use Rattle.floor_edges.proofs.print_floor.Tie as tie
+use Rattle.integer_edges.proofs.print_floor.Statement.{statement}
+use Rattle.integer_edges.proofs.print_floor.Tie as tie
 
 nonzero : (c : tie.Else1) → c .before .args .d ≢ pos 0
 nonzero c e = c .if1 .left (ap (ofZ w64) e)

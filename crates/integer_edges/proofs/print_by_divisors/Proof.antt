@@ -1,23 +1,23 @@
--- `print_ceilings` is safe and ends: the loop counts to 8.
+-- `print_by_divisors` is safe and ends: the loop counts to 10.
 use Prim.Native.Nat.{_≤_, _-_}
 use borrow.Author.Needs.{needs}
-use Rattle.floor_edges.proofs.print_ceilings.Statement.{statement}
-use Rattle.floor_edges.proofs.print_ceilings.Tie as tie
+use Rattle.integer_edges.proofs.print_by_divisors.Statement.{statement}
+use Rattle.integer_edges.proofs.print_by_divisors.Tie as tie
 
 abbrev Inv-loop : tie.InvT-loop
-Inv-loop i₀ i = i ≤ 8
+Inv-loop a i₀ i = i ≤ 10
 
 abbrev μ-loop : tie.MeasureT-loop
-μ-loop i₀ i = 8 - i
+μ-loop a i₀ i = 10 - i
 
 loop-holds : tie.Need-loop-holds Inv-loop μ-loop
 loop-holds c = search needs
 
-natural-requires : tie.Need-natural-requires Inv-loop μ-loop
-natural-requires c κs = search needs
+divisor-requires : tie.Need-divisor-requires Inv-loop μ-loop
+divisor-requires c κs = search needs
 
-print-of-naturals-requires : tie.Need-print-of-naturals-requires Inv-loop μ-loop
-print-of-naturals-requires c κs = search needs
+print-floor-requires : tie.Need-print-floor-requires Inv-loop μ-loop
+print-floor-requires c κs = search needs
 
 add-i : tie.Need-add-i Inv-loop μ-loop
 add-i c = search needs
@@ -31,15 +31,15 @@ loop-again c = search needs
 returns : tie.Need-returns Inv-loop μ-loop
 returns c = search needs
 
-pub print-ceilings-spec : {M : Type 1} → statement M
-print-ceilings-spec =
+pub print-by-divisors-spec : {M : Type 1} → statement M
+print-by-divisors-spec =
     tie.close
     (tie.spec
     Inv-loop
     μ-loop
     loop-holds
-    natural-requires
-    print-of-naturals-requires
+    divisor-requires
+    print-floor-requires
     add-i
     loop-less
     loop-again

@@ -1,23 +1,23 @@
--- `print_by_divisors` is safe and ends: the loop counts to 10.
+-- `print_roots` is safe and ends: the loop counts to 18.
 use Prim.Native.Nat.{_≤_, _-_}
 use borrow.Author.Needs.{needs}
-use Rattle.floor_edges.proofs.print_by_divisors.Statement.{statement}
-use Rattle.floor_edges.proofs.print_by_divisors.Tie as tie
+use Rattle.integer_edges.proofs.print_roots.Statement.{statement}
+use Rattle.integer_edges.proofs.print_roots.Tie as tie
 
 abbrev Inv-loop : tie.InvT-loop
-Inv-loop a i₀ i = i ≤ 10
+Inv-loop i₀ i = i ≤ 18
 
 abbrev μ-loop : tie.MeasureT-loop
-μ-loop a i₀ i = 10 - i
+μ-loop i₀ i = 18 - i
 
 loop-holds : tie.Need-loop-holds Inv-loop μ-loop
 loop-holds c = search needs
 
-divisor-requires : tie.Need-divisor-requires Inv-loop μ-loop
-divisor-requires c κs = search needs
+radicand-requires : tie.Need-radicand-requires Inv-loop μ-loop
+radicand-requires c κs = search needs
 
-print-floor-requires : tie.Need-print-floor-requires Inv-loop μ-loop
-print-floor-requires c κs = search needs
+print-root-requires : tie.Need-print-root-requires Inv-loop μ-loop
+print-root-requires c κs = search needs
 
 add-i : tie.Need-add-i Inv-loop μ-loop
 add-i c = search needs
@@ -31,15 +31,15 @@ loop-again c = search needs
 returns : tie.Need-returns Inv-loop μ-loop
 returns c = search needs
 
-pub print-by-divisors-spec : {M : Type 1} → statement M
-print-by-divisors-spec =
+pub print-roots-spec : {M : Type 1} → statement M
+print-roots-spec =
     tie.close
     (tie.spec
     Inv-loop
     μ-loop
     loop-holds
-    divisor-requires
-    print-floor-requires
+    radicand-requires
+    print-root-requires
     add-i
     loop-less
     loop-again

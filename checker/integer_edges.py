@@ -1,5 +1,5 @@
 #!/usr/bin/env python3
-"""The lines that the program floor_edges must print, by Python's own division and whole-number root, which round down."""
+"""The lines that the program integer_edges must print, by Python's own division and whole-number root, which round down."""
 
 from math import isqrt
 

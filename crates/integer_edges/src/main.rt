@@ -1,4 +1,4 @@
-// Runs the divisions, the absolute value and the root of `integer` on their edges, one line each. `checker/floor_edges.py` makes the same lines.
+// Runs the divisions, the absolute value and the root of `integer` on their edges, one line each. `checker/integer_edges.py` makes the same lines.
 use integer::division::ceiling_quotient;
 use integer::division::floor_quotient;
 use integer::division::floor_quotient_4096;

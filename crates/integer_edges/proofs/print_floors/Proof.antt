@@ -1,8 +1,8 @@
 -- `print_floors` is safe and ends: the loop counts to 13.
 use Prim.Native.Nat.{_≤_, _-_}
 use borrow.Author.Needs.{needs}
-use Rattle.floor_edges.proofs.print_floors.Statement.{statement}
-use Rattle.floor_edges.proofs.print_floors.Tie as tie
+use Rattle.integer_edges.proofs.print_floors.Statement.{statement}
+use Rattle.integer_edges.proofs.print_floors.Tie as tie
 
 abbrev Inv-loop : tie.InvT-loop
 Inv-loop i₀ i = i ≤ 13
