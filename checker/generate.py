@@ -484,10 +484,52 @@ def long_products(rng) -> Draft:
     return draft
 
 
+def about_one(rng) -> int:
+    return rows.UNIT + rng.randint(-900, 900)
+
+
+def constant_chain(rng) -> Draft:
+    """20 multiplies one after another, each by one of four constants about one."""
+    draft = Draft(0, [(0, 0)])
+    constants = [draft.constant(about_one(rng)) for _ in range(4)]
+    while not draft.is_full():
+        draft.multiply(draft.last(), rng.choice(constants))
+    return draft
+
+
+def narrow_chain(rng) -> Draft:
+    """24 multiplies one after another, each by one of six inputs about one, whose ends are near each
+    other."""
+    lows = [about_one(rng) for _ in range(sheet.INPUTS_LIMIT)]
+    draft = Draft(rng.randint(0, sheet.INPUTS_LIMIT), [(low, low + rng.randint(0, 9)) for low in lows])
+    while not draft.is_full():
+        draft.multiply(draft.last(), rng.randint(1, sheet.INPUTS_LIMIT))
+    return draft
+
+
+def at_halves(rng) -> Draft:
+    """Products whose totals are exact halves of the unit, or one to either side, on both sides of 0:
+    in the centre, in a linear coefficient, in both, and in a square's."""
+    def half():
+        return rows.UNIT * rng.randint(-9, 9) + rows.UNIT // 2 + rng.choice((-1, 0, 0, 1))
+
+    centre, wide = half(), abs(half())
+    near = 32 * (2 * rng.randint(-9, 9) + 1)
+    draft = Draft(rng.randint(0, 2), [(centre - wide, centre + wide), (near - 32, near + 32)])
+    one = draft.constant(rng.choice((-1, 1, 1, 3)))
+    draft.multiply(1, one)
+    draft.multiply(draft.constant(half()), one)
+    draft.multiply(2, 2)
+    power = 1 << rng.randint(0, 11)
+    draft.multiply(draft.constant(power), draft.constant((2 * rng.randint(-9, 9) + 1) * 2048 // power))
+    return then_anything(rng, draft)
+
+
 EXTREMES = [
     limit_ends, span_by_sums, span_by_product, range_at_zero, large_squares, mixed_pairs,
     reciprocal_chain, small_divisors, odd_ends, cancellation, long_products, large_roots,
-    small_above_large, roots_of_squares, roots_of_low_ends, root_chain,
+    small_above_large, roots_of_squares, roots_of_low_ends, root_chain, at_halves,
+    constant_chain, narrow_chain,
 ]
 
 

@@ -1,5 +1,5 @@
-"""What the program `row_examples` must print: P1 to P13 (manual, section 5.13), and R1 to R6 of roots,
-row by row.
+"""What the program `row_examples` must print: P1 to P13 (manual, section 5.13), R1 to R6 of
+roots, and N1 to N5 of products to the nearest, row by row.
 
     python3 checker/row_cases.py crates/row_examples
 
@@ -25,6 +25,7 @@ Which row owns which symbol (row r owns symbol r):
 - R1 (root of 4096), R2 (root of 2): as P5, with a root for the reciprocal.
 - R3 (ends 4096, 8192, squares 1), R4 (the same, squares 0), R5 (ends 0, 5, squares 0), R6 (ends 1, 3,
   squares 0): as P10, with a root for the reciprocal.
+- N1 (2047 times 1), N2 (2048), N3 (-2048), N4 (-2049): as P3. N5 (ends 0, 64): as P8.
 """
 
 import sys
@@ -93,6 +94,11 @@ EXAMPLES = [
     ("R4", root_of_input(4096, 8192, 0)),
     ("R5", root_of_input(0, 5, 0)),
     ("R6", root_of_input(1, 3, 0)),
+    ("N1", product_of_constants(2047, 1)),
+    ("N2", product_of_constants(2048, 1)),
+    ("N3", product_of_constants(-2048, 1)),
+    ("N4", product_of_constants(-2049, 1)),
+    ("N5", square_of_input(0, 64, 1)),
 ]
 
 

@@ -138,12 +138,22 @@ def dropped_part(x, y, squares: int) -> int:
     return everything - kept
 
 
+def product_quotient(total: int) -> int:
+    """"A multiply's totals are divided to the nearest whole number, exact halves upward"."""
+    return (total + UNIT // 2) // UNIT
+
+
+def product_remainder(total: int) -> int:
+    """"remainders run from -2048 to 2047; their absolute values are summed": what a quotient
+    leaves, without its sign."""
+    return abs(total - UNIT * product_quotient(total))
+
+
 def multiply(x, y, squares: int, own: int):
-    """"Each total is divided by 4096 and its remainder, 0 to 4095, is kept. [...] Own coefficient:
-    (dropped part + all remainders) / 4096, up."."""
+    """"Own coefficient: (dropped part + all remainders) / 4096, up."."""
     totals = product_totals(x, y, squares)
-    row = [total // UNIT for total in totals]
-    remainders = sum(total % UNIT for total in totals)
+    row = [product_quotient(total) for total in totals]
+    remainders = sum(product_remainder(total) for total in totals)
     assert totals[own] == 0, "an earlier row has no coefficient of a later row's symbol"
     row[own] = up(dropped_part(x, y, squares) + remainders, UNIT)
     return span_tested(row)

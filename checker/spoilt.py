@@ -6,12 +6,13 @@ where it does. Those of OTHER_NUMBERS and OTHER_RANGES give other numbers than t
 those of OTHER_SHEETS read otherwise: the generated sheets must tell them all from the right ones,
 and the cases of sheet_cases.py the last. Those of OTHER_CALLS are wrong in `evaluation`, those of
 OTHER_LISTINGS in `listing` and those of OTHER_FORMULAS in `formula`, and the calls of
-library_calls.py must tell them, every fault of a range, and those of OF_ROOTS.
+library_calls.py must tell them, every fault of a range, and those of OF_PRODUCTS and OF_ROOTS.
 """
 
 import contextlib
 import re
 import unittest.mock
+from fractions import Fraction
 
 import evaluation
 import formula
@@ -65,9 +66,13 @@ def multiply_without_remainders(x, y, squares, own):
 def multiply_with_own_rounded_down(x, y, squares, own):
     row = REAL["multiply"](x, y, squares, own)
     totals = rows.product_totals(x, y, squares)
-    remainders = sum(total % rows.UNIT for total in totals)
+    remainders = sum(map(rows.product_remainder, totals))
     row[own] = (rows.dropped_part(x, y, squares) + remainders) // rows.UNIT
     return row
+
+
+def signed_remainder(total):
+    return total - rows.UNIT * rows.product_quotient(total)
 
 
 def error_without_dropped_part(x, candidate, squares):
@@ -154,6 +159,7 @@ UNSOUND = {
     },
     "half the width as an input's own coefficient": {"input_row": half_width_input},
     "a product without its remainders": {"multiply": multiply_without_remainders},
+    "remainders summed with their signs": {"product_remainder": signed_remainder},
     "a product's own coefficient rounded down": {"multiply": multiply_with_own_rounded_down},
     "no dropped part": {"dropped_part": lambda x, y, squares: 0},
     "B without the dropped part": {"candidate_error": error_without_dropped_part},
@@ -180,12 +186,21 @@ def toward_zero(dividend, divisor):
     return quotient if (dividend < 0) == (divisor < 0) else -quotient
 
 
-def multiply_toward_zero(x, y, squares, own):
-    totals = rows.product_totals(x, y, squares)
-    row = [toward_zero(total, rows.UNIT) for total in totals]
-    left = sum(abs(total - rows.UNIT * part) for total, part in zip(totals, row))
-    row[own] = rows.up(rows.dropped_part(x, y, squares) + left, rows.UNIT)
-    return rows.span_tested(row)
+def to_nearest(dividend, divisor):
+    return (2 * dividend + divisor) // (2 * divisor)
+
+
+def halves_downward(total):
+    return -((rows.UNIT // 2 - total) // rows.UNIT)
+
+
+def halves_away_from_zero(total):
+    return halves_downward(total) if total < 0 else REAL["product_quotient"](total)
+
+
+def root_candidate_to_nearest(x):
+    z = rows.unit_root(x[0])
+    return [z, *(to_nearest(rows.UNIT // 2 * number, z) for number in x[1:])]
 
 
 def candidate_by(divide, divide_pair):
@@ -292,7 +307,7 @@ def error_with_n_kept(x, candidate, squares):
 def multiply_without_remainder_of_centre(x, y, squares, own):
     row = REAL["multiply"](x, y, squares, own)
     totals = rows.product_totals(x, y, squares)
-    remainders = sum(total % rows.UNIT for total in totals[1:])
+    remainders = sum(map(rows.product_remainder, totals[1:]))
     row[own] = rows.up(rows.dropped_part(x, y, squares) + remainders, rows.UNIT)
     return row
 
@@ -300,7 +315,7 @@ def multiply_without_remainder_of_centre(x, y, squares, own):
 def multiply_with_roundings_apart(x, y, squares, own):
     row = REAL["multiply"](x, y, squares, own)
     totals = rows.product_totals(x, y, squares)
-    remainders = sum(total % rows.UNIT for total in totals)
+    remainders = sum(map(rows.product_remainder, totals))
     row[own] = rows.up(rows.dropped_part(x, y, squares), rows.UNIT) + rows.up(remainders, rows.UNIT)
     return rows.span_tested(row)
 
@@ -446,8 +461,15 @@ BY_FORM = {
 }
 
 OTHER_NUMBERS = BY_FORM | {
-    "a product rounded toward zero": {"multiply": multiply_toward_zero},
+    "a product rounded down": {"product_quotient": lambda total: total // rows.UNIT},
+    "a product rounded toward zero": {"product_quotient": lambda total: toward_zero(total, rows.UNIT)},
+    "exact halves downward": {"product_quotient": halves_downward},
+    "exact halves away from zero": {"product_quotient": halves_away_from_zero},
+    "exact halves to even": {"product_quotient": lambda total: round(Fraction(total, rows.UNIT))},
+    "remainders of the quotient rounded down": {"product_remainder": lambda total: total % rows.UNIT},
     "a candidate rounded toward zero": candidate_by(toward_zero, right_pair),
+    "a candidate rounded to the nearest": candidate_by(to_nearest, right_pair),
+    "a root's slope rounded to the nearest": {"root_candidate": root_candidate_to_nearest},
     "a candidate's pair rounded toward zero": candidate_by(floor, pair_toward_zero),
     "a candidate's pair in one division": candidate_by(floor, pair_in_one_division),
     "a candidate's pair in three divisions": candidate_by(floor, pair_in_three_divisions),
@@ -506,6 +528,10 @@ OTHER_NUMBERS = BY_FORM | {
 
 # Every fault of a root.
 ROOT_PARTS = {"root", "root_candidate", "square_error", "unit_root"}
+PRODUCT_PARTS = {"multiply", "product_quotient", "product_remainder"}
+OF_PRODUCTS = {
+    name: parts for name, parts in (UNSOUND | OTHER_NUMBERS).items() if PRODUCT_PARTS & parts.keys()
+}
 OF_ROOTS = {name: parts for name, parts in (UNSOUND | OTHER_NUMBERS).items() if ROOT_PARTS & parts.keys()}
 
 

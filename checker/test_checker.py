@@ -97,7 +97,7 @@ class ProvedExamples(unittest.TestCase):
         self.assertEqual(rows.form_range(row), (-1, 1))
 
     def test_p4_minus_1_times_1(self):
-        self.assertEqual(of_two_constants(4, -1, 1), numbers(-1, {4: 1}))
+        self.assertEqual(of_two_constants(4, -1, 1), numbers(0, {4: 1}))
 
     def test_p5_reciprocal_of_8192(self):
         self.assertEqual(reciprocal_of_constant(8192), numbers(2048, {}))
@@ -143,9 +143,13 @@ class ProvedExamples(unittest.TestCase):
 class Traps(unittest.TestCase):
     """"Traps for the builder": each one changes an example as the specification says it does."""
 
+    def test_rounding_a_product_down(self):
+        with spoilt.spoilt("a product rounded down"):
+            self.assertNotEqual(of_two_constants(4, -1, 1)[0], 0)
+
     def test_rounding_toward_zero(self):
         with spoilt.spoilt("a product rounded toward zero"):
-            self.assertNotEqual(of_two_constants(4, -1, 1)[0], -1)
+            self.assertNotEqual(of_two_constants(4, 2048, 1)[0], 1)
         with spoilt.spoilt("a candidate rounded toward zero"):
             self.assertNotEqual(reciprocal_of_constant(-12288)[0], -1366)
 
@@ -191,6 +195,28 @@ class Rows(unittest.TestCase):
         """(1 + a)(2 + 3b) with squares 2, in units of 4096 and by hand."""
         row = last_row(2, [(0, 8192), (-4096, 20480)], [(4, 1, 2, 0)])
         self.assertEqual(row, numbers(8192, {1: 8192, 2: 12288}, [0, 12288]))
+
+    def test_exact_halves_and_their_neighbours(self):
+        """4096 × k + 2048 is half-way between k and k + 1, and goes up; one below it goes down. Each
+        leaves more than nothing, so the own coefficient is 1."""
+        for k in (-65_535, -3, -2, -1, 0, 1, 2, 3, 65_534):
+            for off, quotient in ((-1, k), (0, k + 1), (1, k + 1)):
+                row = of_two_constants(4, 4096 * k + 2048 + off, 1)
+                self.assertEqual(row, numbers(quotient, {4: 1}))
+
+    def test_remainders_count_without_their_signs(self):
+        """32 + 32a times itself: totals 1024, 2048 and 1024, remainders 1024, -2048 and 1024, which
+        are 4096 without their signs, and nothing with them."""
+        row = last_row(1, [(0, 64)], [(4, 1, 1, 0)])
+        self.assertEqual(row, numbers(0, {1: 1, 2: 1}))
+        with spoilt.spoilt("remainders summed with their signs"):
+            self.assertEqual(last_row(1, [(0, 64)], [(4, 1, 1, 0)]), numbers(0, {1: 1}))
+
+    def test_a_remainder_runs_from_minus_2048_to_2047(self):
+        for total in [*range(-9000, 9000), *range(2**60 - 9000, 2**60 + 9000)]:
+            left = total - 4096 * rows.product_quotient(total)
+            self.assertTrue(-2048 <= left <= 2047)
+            self.assertEqual(rows.product_remainder(total), abs(left))
 
     def test_product_with_one_square_drops_the_rest(self):
         row = last_row(1, [(0, 8192), (-4096, 20480)], [(4, 1, 2, 0)])
@@ -869,7 +895,7 @@ class Samples(unittest.TestCase):
         found = samples.listings()
         for sample in found:
             self.assertEqual(listing.listing(sample.sheet), sample.printed)
-        self.assertEqual(len(found), 400)
+        self.assertEqual(len(found), 598)
 
     def test_evaluations(self):
         found = samples.evaluations()
@@ -879,7 +905,7 @@ class Samples(unittest.TestCase):
             self.assertEqual(answer, sample.refusal, sample)
             for table, length, written in zip(tables, sample.lengths, sample.written):
                 self.assertEqual(table, written + [sample.fill] * (length - len(written)))
-        self.assertEqual(len(found), 300)
+        self.assertEqual(len(found), 230)
 
     def test_ranges(self):
         found = samples.ranges()
@@ -896,7 +922,7 @@ class Samples(unittest.TestCase):
 
     def test_no_call_is_of_another_kind(self):
         kinds = collections.Counter(made["call"] for made in samples.objects("calls.jsonl"))
-        self.assertEqual(kinds, {"evaluate": 300, "range": 150})
+        self.assertEqual(kinds, {"evaluate": 230, "range": 150})
 
 
 def schedules_read(seed, count):
@@ -1094,7 +1120,7 @@ class LibraryCalls(unittest.TestCase):
         listings = [call for call in every if call[0] in of_listing]
         formulas = [call for call in every if call[0] in of_formula]
         others = [call for call in every if call[0] not in (library_calls.LIST, *of_formula)]
-        self.assert_told(others, spoilt.OTHER_CALLS | spoilt.OF_ROOTS)
+        self.assert_told(others, spoilt.OTHER_CALLS | spoilt.OF_PRODUCTS | spoilt.OF_ROOTS)
         for calls in (others, listings):
             self.assert_told(calls, spoilt.UNSOUND_RANGES | spoilt.OTHER_RANGES | spoilt.BY_FORM)
         self.assert_told(listings, spoilt.OTHER_LISTINGS)

@@ -25,6 +25,7 @@ from fractions import Fraction
 ROOT = pathlib.Path(__file__).resolve().parent.parent
 sys.path.insert(0, str(ROOT / "checker"))
 
+import drift
 import evaluation
 import formula
 import listing
@@ -43,7 +44,7 @@ LONG = ("rt ", ".ci/", "bench/")
 COMMAND = re.compile(r"(rt|python3|bash|target/bin/\S+) |\.ci/|bench/run\.sh")
 TOP_FOLDERS = ("bench/", "checker/", "crates/", "docs/", "examples/", "tests/", ".ci/")
 
-SUM = re.compile(r"(?P<work>[-+×/() 0-9]+) = (?P<is>-?[0-9]+)(?:, (?P<rounded>down|up))?")
+SUM = re.compile(r"(?P<work>[-+×/() 0-9]+) = (?P<is>-?[0-9]+)(?:, (?P<rounded>down|up|nearest))?")
 OPERATIONS = {ast.Add: operator.add, ast.Sub: operator.sub, ast.Mult: operator.mul, ast.Div: operator.truediv}
 SECTION = re.compile(r"#{2,3} (\d+(?:\.\d+)?) ")
 REFERENCE = re.compile(r"\bsections?\s+(\d+(?:\.\d+)?)(?:(?:,| and| to) (\d+(?:\.\d+)?))*")
@@ -175,9 +176,14 @@ def worked(node) -> Fraction:
     return Fraction(node.value)
 
 
+def upper_nearest(exact: Fraction) -> int:
+    """The nearest whole number, and of two that are as near the upper one."""
+    return min((math.ceil(exact), math.floor(exact)), key=lambda whole: abs(exact - whole))
+
+
 def check_sum(document: str, span: str, shown) -> None:
     value = worked(ast.parse(shown["work"].strip().replace("×", "*"), mode="eval").body)
-    rounding = {"down": math.floor, "up": math.ceil, None: lambda exact: exact}[shown["rounded"]]
+    rounding = {"down": math.floor, "up": math.ceil, "nearest": upper_nearest, None: lambda exact: exact}[shown["rounded"]]
     expect(f"{document}: {span}", int(shown["is"]), rounding(value))
 
 
@@ -347,6 +353,10 @@ def check_size(what, shown) -> None:
     expect(f"{MANUAL}: {what}", number(shown), SIZES[what]() if what in SIZES else "not among SIZES")
 
 
+def check_drift(sheets_of, *shown) -> None:
+    expect(f"{MANUAL}: drift of {sheets_of}", list(shown), drift.figures(drift.KINDS[sheets_of]))
+
+
 def check_example_sheet(name, prints, why) -> None:
     """A sheet of examples/README.md prints its listing, or its refusal."""
     path = ROOT / "examples" / f"{name.strip('`')}.sheet"
@@ -371,12 +381,13 @@ def check_formula_row(row, part, step) -> None:
 
 
 TABLES = [
-    (MANUAL, "| example | squares | ends | steps | shown | centre | symbol 1 | pair (1,1) | own | low | high |", check_example, 22),
+    (MANUAL, "| example | squares | ends | steps | shown | centre | symbol 1 | pair (1,1) | own | low | high |", check_example, 27),
     (MANUAL, "| row | its centre | its symbol 1 | its symbol 2 | numbers of the second table | low | high |", check_lent, 3),
     (MANUAL, "| field | from | to |", check_field, len(FIELDS)),
     (MANUAL, "| pairs | numbers |", check_pairs, 6),
     (MANUAL, "| what | how much |", check_size, len(SIZES)),
     (MANUAL, "| row | is the part | step |", check_formula_row, 5),
+    (MANUAL, "| sheets of multiplies | sheets | mean error, down | mean error, nearest | mean width, down | mean width, nearest |", check_drift, 3),
     ("examples/README.md", "| sheet | prints | why |", check_example_sheet, len([*ROOT.glob("examples/*.sheet")])),
     ("examples/README.md", "| formula | prints | why |", check_example_formula, len([*ROOT.glob("examples/*.formula")])),
 ]

@@ -134,21 +134,26 @@ fn dropped(x: &Row, y: &Row, squares: usize) -> u64 {
     x.radius() * y.radius() - absolutes(&x.linear[..squares]) * absolutes(&y.linear[..squares])
 }
 
+/// The nearest whole number to a total over 4096, exact halves upward, and what it leaves, without its sign.
+fn divided(t: i64) -> (i64, u64) {
+    let moved = t + 2048;
+    (moved >> 12, (moved & 4095).abs_diff(2048))
+}
+
 pub fn multiply(x: &Row, y: &Row, squares: usize, own: usize) -> Answer {
     let mut row = Row::ZERO;
-    let t = x.centre * y.centre;
-    row.centre = t >> 12;
-    let mut remainders = (t & 4095) as u64;
+    let mut remainders;
+    (row.centre, remainders) = divided(x.centre * y.centre);
     for i in 0..SYMBOLS {
-        let t = linear_total(x, y, i);
-        row.linear[i] = t >> 12;
-        remainders += (t & 4095) as u64;
+        let (q, left) = divided(linear_total(x, y, i));
+        row.linear[i] = q;
+        remainders += left;
     }
     for (k, &(i, j)) in ORDER.iter().enumerate() {
         if j < squares {
-            let t = pair_total(x, y, k, i, j);
-            row.pair[k] = t >> 12;
-            remainders += (t & 4095) as u64;
+            let (q, left) = divided(pair_total(x, y, k, i, j));
+            row.pair[k] = q;
+            remainders += left;
         }
     }
     row.linear[own] = (dropped(x, y, squares) + remainders).div_ceil(4096) as i64;

@@ -1,16 +1,16 @@
 -- All that the proofs ask of the rounding rule of a product: a total is 4096 times its quotient plus its remainder, the quotient is no larger than the total, and the
--- remainder is below 4096 in size. So a total of 0 has quotient 0 and leaves nothing.
+-- remainder is below 4096 in size. So a total of 0 has quotient 0 and leaves nothing. And how far the remainders run.
 use mathlib.Core.Path.{_≡_, sym, ap, _∙_}
 use Prim.Native.Nat.{_≤_, _<_}
 use native.Mathlib.Omega.{arith}
-use lib.IntN.{ℤ, pos, natAbs, _+ℤ_, _*ℤ_, *ℤ-comm}
-use Rattle.integer.specs.Floor.{floorQuotient, floorRemainder}
+use lib.IntN.{ℤ, pos, negsuc, natAbs, _+ℤ_, _*ℤ_, *ℤ-comm}
+use Rattle.integer.specs.Nearest.{nearestQuotient, nearestRemainder}
 use Rattle.integer.proofs.Ring.{con, _⊕_, _⊗_}
-use Rattle.integer.proofs.Linear.{linℤ, _≗_, _⇒_, so}
+use Rattle.integer.proofs.Linear.{linℤ, _⊴_, _⊲_, _≗_, _⇒_, so}
 use Rattle.integer.proofs.Absolute.{natAbs-zero}
-use Rattle.integer.proofs.Floor.{floor-divides, natAbs-quotient, natAbs-remainder}
+use Rattle.integer.proofs.NearestLaws.{is-nearest, natAbs-nearest-quotient, natAbs-nearest-remainder}
 use Rattle.affine.specs.Limits.{unit}
-use Rattle.affine.specs.Product.{Rounding, productRounding}
+use Rattle.affine.specs.Product.{Rounding, productRounding, Remainders-run}
 
 pub record Rounds (ρ : Rounding) : Type 0 where
   pub parts : (t : ℤ) → t ≡ pos unit *ℤ ρ .quotient t +ℤ ρ .remainder t
@@ -20,13 +20,18 @@ pub record Rounds (ρ : Rounding) : Type 0 where
 pub product-rounds : Rounds productRounding
 product-rounds =
     record {
-      parts = λ t. sym (floor-divides t (pos unit) nonzero .total) ∙ ap (λ q. q +ℤ floorRemainder t (pos unit)) (*ℤ-comm (floorQuotient t (pos unit)) (pos unit));
-      quotient-within = λ t. natAbs-quotient t (pos unit);
-      remainder-small = λ t. natAbs-remainder t (pos unit) nonzero;
+      parts = λ t. sym (is-nearest t unit (omega arith) .total) ∙ ap (λ q. q +ℤ nearestRemainder t unit) (*ℤ-comm (nearestQuotient t unit) (pos unit));
+      quotient-within = λ t. natAbs-nearest-quotient t unit (omega arith);
+      remainder-small = λ t. omega (arith, natAbs-nearest-remainder t unit (omega arith));
     }
-  where
-    nonzero : pos unit ≡ pos 0 → ⊥
-    nonzero e = let n : unit ≡ 0 = cc in omega arith
+
+pub remainders-run : Remainders-run
+remainders-run t =
+    let n = is-nearest t unit (omega arith) in
+    let r = nearestRemainder t unit in (
+      linℤ 1 (λ r. con (negsuc 4095) ⊴ con (pos 2) ⊗ r ⇒ so (con (negsuc 2047) ⊴ r)) r (omega arith) (n .from),
+      linℤ 1 (λ r. con (pos 2) ⊗ r ⊲ con (pos 4096) ⇒ so (r ⊴ con (pos 2047))) r (omega arith) (n .below),
+    )
 
 -- ---- a total of 0
 pub quotient-zero : productRounding .quotient (pos 0) ≡ pos 0

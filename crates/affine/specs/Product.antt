@@ -2,9 +2,11 @@
 use mathlib.Core.List.{List}
 use Prim.Native.Nat.{ℕ, _+_, _*_, _-_}
 use lib.Dec.{eqb}
-use lib.IntN.{ℤ, pos, _+ℤ_, _*ℤ_}
+use lib.IntN.{ℤ, pos, negsuc, _+ℤ_, _*ℤ_}
+use lib.Signed.{_≤ℤ_}
 use lib.ListN.{take}
-use Rattle.integer.specs.Floor.{floorQuotient, floorRemainder, ceilingQuotient}
+use Rattle.integer.specs.Floor.{ceilingQuotient}
+use Rattle.integer.specs.Nearest.{nearestQuotient, nearestRemainder}
 use Rattle.integer.specs.Sum.{sumAbs}
 use Rattle.affine.specs.declared.Row.{Row}
 use Rattle.affine.specs.declared.Answer.{Answer}
@@ -55,12 +57,16 @@ pub record Rounding : Type 0 where
   pub quotient : ℤ → ℤ
   pub remainder : ℤ → ℤ
 
--- "Each total is divided by 4096 and its remainder, 0 to 4095, is kept." "Division here rounds down, toward minus infinity"
+-- "A multiply's totals are divided to the nearest whole number, exact halves upward, ..
 abbrev pub productRounding : Rounding
 productRounding =
-    record { quotient = λ t. floorQuotient t (pos unit); remainder = λ t. floorRemainder t (pos unit) }
+    record { quotient = λ t. nearestQuotient t unit; remainder = λ t. nearestRemainder t unit }
 
--- "Own coefficient: (dropped part + all remainders) / 4096, up."
+-- .. and remainders run from -2048 to 2047": a claim, which `remainders-run` in `proofs/Rounding.antt` proves
+abbrev pub Remainders-run : Type 0
+Remainders-run = (t : ℤ) → (negsuc 2047 ≤ℤ productRounding .remainder t) × (productRounding .remainder t ≤ℤ pos 2047)
+
+-- "Own coefficient: (dropped part + all remainders) / 4096, up." "their absolute values are summed"
 unfoldable pub productOwn : ℕ → Row → Row → ℕ
 productOwn squares x y =
     ceilingQuotient (dropped squares x y + span (mapRow (productRounding .remainder) (totals squares x y))) unit

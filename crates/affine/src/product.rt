@@ -51,7 +51,7 @@ pub fn linear_total<'a, 'b>(
     crosswise_total(c, bi, d, ai)
 }
 
-// Puts the quotient of a total where a 0 stands, and answers the remainder. A total of 0 leaves the 0.
+// Puts the quotient of a total where a 0 stands, and answers the absolute remainder. A total of 0 leaves the 0.
 fn put_quotient(out: &mut [i64], i: usize, t: i64) -> u64
     requires { ⌜ (i < length (now out)) × (at (now out) i ≡ pos 0) ⌝ }
     ensures quotient { λ r. ⌜ now (out .exit) ≡ set (now (out .entry)) i (productRounding .quotient t) ⌝ }
@@ -60,11 +60,11 @@ fn put_quotient(out: &mut [i64], i: usize, t: i64) -> u64
     if t == 0 {
         return 0;
     }
-    out[i] = integer::division::floor_quotient_4096(t);
-    integer::division::floor_remainder_4096(t)
+    out[i] = integer::division::nearest_quotient_4096(t);
+    integer::division::nearest_remainder_4096(t)
 }
 
-// Puts the quotients of all symbols' totals into zeros, and answers the sum of the remainders. Neither row has a coefficient from own on.
+// Puts the quotients of all symbols' totals into zeros, and answers the sum of the absolute remainders. Neither row has a coefficient from own on.
 fn put_linear<'a, 'b>(
     out: &mut [i64],
     c: i64,
@@ -130,7 +130,7 @@ pub fn pair_total<'a, 'b>(
     crosswise_total(c, qk, d, pk) + meeting_at(a, b, i, j)
 }
 
-// Puts the quotients of the pairs whose second symbol is j, and adds up the remainders: those of the first j symbols become those of one more.
+// Puts the quotients of the pairs whose second symbol is j, and adds up the absolute remainders: those of the first j symbols become those of one more.
 fn put_column<'a, 'b>(
     out: &mut [i64],
     remainders: u64,
@@ -160,7 +160,7 @@ fn put_column<'a, 'b>(
     sum
 }
 
-// Puts the quotients of the totals of all pairs in use into zeros, and answers the sum of the remainders.
+// Puts the quotients of the totals of all pairs in use into zeros, and answers the sum of the absolute remainders.
 fn put_pairs<'a, 'b>(
     out: &mut [i64],
     c: i64,
@@ -216,7 +216,7 @@ pub fn multiply(x: Row, x_radius: u64, y: Row, y_radius: u64, squares: usize, ow
     let t = c * d;
     let mut linear = [0i64; SYMBOLS];
     let mut pair = [0i64; PAIRS];
-    let remainders = integer::division::floor_remainder_4096(t)
+    let remainders = integer::division::nearest_remainder_4096(t)
         + put_linear(&mut linear, c, &x.linear, d, &y.linear, own)
         + put_pairs(
             &mut pair,
@@ -231,7 +231,7 @@ pub fn multiply(x: Row, x_radius: u64, y: Row, y_radius: u64, squares: usize, ow
     let error = dropped_part(&x.linear, x_radius, &y.linear, y_radius, squares) + remainders;
     linear[own] = integer::division::ceiling_quotient(error, UNIT) as i64;
     let row = Row {
-        centre: integer::division::floor_quotient_4096(t),
+        centre: integer::division::nearest_quotient_4096(t),
         linear,
         pair,
     };

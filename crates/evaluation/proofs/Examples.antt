@@ -1,4 +1,4 @@
--- "Proved examples" P1 to P13, and R1 to R7 of roots (manual, section 5.13), over the definitions that the contracts cite: cases as data, and one test that the checker
+-- "Proved examples" P1 to P13, R1 to R7 of roots, and N1 to N5 of products to the nearest (manual, section 5.13), over the definitions that the contracts cite: cases as data, and one test that the checker
 -- evaluates.
 use mathlib.Core.Path.{_≡_, refl}
 use mathlib.Core.List.{List, [], _∷_, _++_, map}
@@ -6,7 +6,8 @@ use Prim.Native.Nat.{ℕ, _-_, _*_}
 use lib.IntN.{ℤ, pos, negℤ}
 use lib.Dec.{eqb}
 use lib.ListN.{length, getD, replicate}
-use Rattle.integer.specs.Floor.{floorQuotient, floorRemainder}
+use Rattle.integer.specs.Floor.{floorQuotient}
+use Rattle.integer.specs.Nearest.{nearestQuotient, nearestRemainder}
 use Rattle.affine.specs.declared.Row.{Row}
 use Rattle.affine.specs.declared.Range.{Range}
 use Rattle.affine.specs.Lists.{pick, at, tabulate, sum}
@@ -112,7 +113,7 @@ cases =
     case (alone (ended (pos 0) (pos 1))) 0 (pos 0 ∷ pos 0 ∷ pos 0 ∷ pos 1 ∷ pos 0 ∷ pos 1 ∷ pos 0 ∷ pos 1 ∷ [])
     ∷ case (alone (ended (minus 1) (pos 0))) 0 (pos 0 ∷ pos 0 ∷ minus 1 ∷ pos 1 ∷ pos 0 ∷ pos 1 ∷ minus 1 ∷ pos 0 ∷ [])
     ∷ case (productOf (pos 1) (pos 1)) 3 (pos 0 ∷ pos 0 ∷ pos 0 ∷ pos 0 ∷ pos 0 ∷ pos 1 ∷ minus 1 ∷ pos 1 ∷ [])
-    ∷ case (productOf (minus 1) (pos 1)) 3 (pos 0 ∷ pos 0 ∷ minus 1 ∷ pos 0 ∷ pos 0 ∷ pos 1 ∷ minus 2 ∷ pos 0 ∷ [])
+    ∷ case (productOf (minus 1) (pos 1)) 3 (pos 0 ∷ pos 0 ∷ pos 0 ∷ pos 0 ∷ pos 0 ∷ pos 1 ∷ minus 1 ∷ pos 1 ∷ [])
     ∷ case (reciprocalOf (pos 8192)) 2 (pos 0 ∷ pos 0 ∷ pos 2048 ∷ pos 0 ∷ pos 0 ∷ pos 0 ∷ pos 2048 ∷ pos 2048 ∷ [])
     ∷ case (reciprocalOf (pos 12288)) 2 (pos 0 ∷ pos 0 ∷ pos 1365 ∷ pos 0 ∷ pos 0 ∷ pos 1 ∷ pos 1364 ∷ pos 1366 ∷ [])
     ∷ case (reciprocalOf (minus 12288)) 2 (pos 0 ∷ pos 0 ∷ minus 1366 ∷ pos 0 ∷ pos 0 ∷ pos 1 ∷ minus 1367 ∷ minus 1365 ∷ [])
@@ -131,8 +132,13 @@ cases =
     ∷ case (rooted 0 (ended (pos 0) (pos 5))) 1 (pos 12 ∷ pos 2 ∷ [])
     ∷ case (rooted 0 (ended (pos 1) (pos 3))) 1 (pos 0 ∷ pos 0 ∷ pos 90 ∷ pos 22 ∷ pos 0 ∷ pos 13 ∷ pos 55 ∷ pos 125 ∷ [])
     ∷ case (rootOfSquare wide) 2 (pos 0 ∷ pos 0 ∷ pos 6144 ∷ pos 2048 ∷ pos 341 ∷ pos 1609 ∷ pos 2487 ∷ pos 10142 ∷ [])
+    ∷ case (productOf (pos 2047) (pos 1)) 3 (pos 0 ∷ pos 0 ∷ pos 0 ∷ pos 0 ∷ pos 0 ∷ pos 1 ∷ minus 1 ∷ pos 1 ∷ [])
+    ∷ case (productOf (pos 2048) (pos 1)) 3 (pos 0 ∷ pos 0 ∷ pos 1 ∷ pos 0 ∷ pos 0 ∷ pos 1 ∷ pos 0 ∷ pos 2 ∷ [])
+    ∷ case (productOf (minus 2048) (pos 1)) 3 (pos 0 ∷ pos 0 ∷ pos 0 ∷ pos 0 ∷ pos 0 ∷ pos 1 ∷ minus 1 ∷ pos 1 ∷ [])
+    ∷ case (productOf (minus 2049) (pos 1)) 3 (pos 0 ∷ pos 0 ∷ minus 1 ∷ pos 0 ∷ pos 0 ∷ pos 1 ∷ minus 2 ∷ pos 0 ∷ [])
+    ∷ case (square 1 (ended (pos 0) (pos 64))) 1 (pos 0 ∷ pos 0 ∷ pos 0 ∷ pos 1 ∷ pos 0 ∷ pos 1 ∷ minus 2 ∷ pos 2 ∷ [])
     ∷ []
 
 examples-hold : map (λ k. shown (k .of) (k .row)) cases ≡ map (λ k. k .is) cases
-unfolding cases case still reciprocalOf rootOf productOf alone square inverse rooted rootOfSquare wide ended step schedule evaluation rangeShown rowShown shown evaluated worked withAnswer ownRanges rowAnswer stepAnswer binaryAnswer unaryAnswer testOf testLines faultAt lineOf numbers fault countsPass endsPass stepPasses floorQuotient floorRemainder low high tabulate overPairs firsts seconds pairBelow pairAbove pairsBelow pairsAbove sum span linearTotals pairTotals radius squaredRadius dropped productOwn productRow candidateLinear candidatePair errorBound reciprocalOwn reciprocalRow root rootIn unitRoot linearMisses pairMisses squareError rootOwn rootRow
+unfolding cases case still reciprocalOf rootOf productOf alone square inverse rooted rootOfSquare wide ended step schedule evaluation rangeShown rowShown shown evaluated worked withAnswer ownRanges rowAnswer stepAnswer binaryAnswer unaryAnswer testOf testLines faultAt lineOf numbers fault countsPass endsPass stepPasses floorQuotient nearestQuotient nearestRemainder low high tabulate overPairs firsts seconds pairBelow pairAbove pairsBelow pairsAbove sum span linearTotals pairTotals radius squaredRadius dropped productOwn productRow candidateLinear candidatePair errorBound reciprocalOwn reciprocalRow root rootIn unitRoot linearMisses pairMisses squareError rootOwn rootRow
 examples-hold = refl

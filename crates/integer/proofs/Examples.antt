@@ -1,10 +1,11 @@
--- Worked examples: divisions on both sides of 0 by divisors of both signs, roots, and one use each of the solver and of the two provers of orders.
+-- Worked examples: divisions on both sides of 0 by divisors of both signs, exact halves and their neighbours, roots, and one use each of the solver and of the two provers of orders.
 use mathlib.Core.Path.{_≡_, refl}
 use mathlib.Core.List.{List, [], _∷_, map}
 use native.Mathlib.Omega.{arith}
-use lib.IntN.{ℤ, pos, negsuc, negℤ, _+ℤ_, _-ℤ_, _*ℤ_}
+use lib.IntN.{ℤ, pos, negsuc, negℤ, natAbs, _+ℤ_, _-ℤ_, _*ℤ_}
 use lib.Signed.{_≤ℤ_}
 use Rattle.integer.specs.Floor.{floorQuotient, floorRemainder}
+use Rattle.integer.specs.Nearest.{nearestQuotient, nearestRemainder}
 use Rattle.integer.specs.Root.{root, rootIn}
 use Rattle.integer.specs.Fraction.{Fraction, _≤ℚ_, _+ℚ_, _*ℚ_, whole}
 use Rattle.integer.proofs.Ring.{var, con, _⊕_, _⊖_, _⊗_, neg, _≐_}
@@ -42,6 +43,35 @@ divide e =
 divisions-hold : map divide divisions ≡ divisions
 unfolding divisions divide floorQuotient floorRemainder
 divisions-hold = refl
+
+-- to the nearest by 4096: exact halves, which go upward on both sides of 0, and their neighbours; by 3, which has no halves
+nearest : List Division
+nearest =
+    record { dividend = pos 2047; divisor = pos 4096; quotient = pos 0; remainder = pos 2047 }
+    ∷ record { dividend = pos 2048; divisor = pos 4096; quotient = pos 1; remainder = negsuc 2047 }
+    ∷ record { dividend = pos 2049; divisor = pos 4096; quotient = pos 1; remainder = negsuc 2046 }
+    ∷ record { dividend = pos 6144; divisor = pos 4096; quotient = pos 2; remainder = negsuc 2047 }
+    ∷ record { dividend = negsuc 0; divisor = pos 4096; quotient = pos 0; remainder = negsuc 0 }
+    ∷ record { dividend = negsuc 2046; divisor = pos 4096; quotient = pos 0; remainder = negsuc 2046 }
+    ∷ record { dividend = negsuc 2047; divisor = pos 4096; quotient = pos 0; remainder = negsuc 2047 }
+    ∷ record { dividend = negsuc 2048; divisor = pos 4096; quotient = negsuc 0; remainder = pos 2047 }
+    ∷ record { dividend = negsuc 6143; divisor = pos 4096; quotient = negsuc 0; remainder = negsuc 2047 }
+    ∷ record { dividend = pos 4; divisor = pos 3; quotient = pos 1; remainder = pos 1 }
+    ∷ record { dividend = pos 5; divisor = pos 3; quotient = pos 2; remainder = negsuc 0 }
+    ∷ []
+
+divideNearest : Division → Division
+divideNearest e =
+    record {
+      dividend = e .dividend;
+      divisor = e .divisor;
+      quotient = nearestQuotient (e .dividend) (natAbs (e .divisor));
+      remainder = nearestRemainder (e .dividend) (natAbs (e .divisor));
+    }
+
+nearest-hold : map divideNearest nearest ≡ nearest
+unfolding nearest divideNearest floorQuotient nearestQuotient nearestRemainder
+nearest-hold = refl
 
 -- perfect squares and their neighbours, and the greatest 64-bit number
 roots-hold : map root (0 ∷ 1 ∷ 2 ∷ 3 ∷ 4 ∷ 8 ∷ 9 ∷ 10 ∷ 16777215 ∷ 16777216 ∷ 16777217 ∷ 18446744073709551615 ∷ [])

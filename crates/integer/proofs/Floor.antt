@@ -34,16 +34,17 @@ pub remainderBy-small : (a : ℤ) (m : ℕ) → 0 < m → remainderBy a m < m
 remainderBy-small (pos n) m h = mod-lt n h
 remainderBy-small (negsuc n) m h = let k = mod-lt n h in omega arith
 
-floorBy-total : (a : ℤ) (m : ℕ) → 0 < m → floorBy a m *ℤ pos m +ℤ pos (remainderBy a m) ≡ a
-floorBy-total (pos n) m h = ap pos (div-add-mod' n m)
-floorBy-total (negsuc n) m h =
+pub floor-sum : (a : ℤ) (m : ℕ) → 0 < m → floorQuotient a (pos m) *ℤ pos m +ℤ pos (remainderBy a m) ≡ a
+unfolding floorQuotient
+floor-sum (pos n) m h = ap pos (div-add-mod' n m)
+floor-sum (negsuc n) m h =
     linℤ 3 (λ a p r. p ≗ a ⊕ r ⇒ so (neg p ⊕ r ≗ neg a)) (pos (suc n)) (pos (suc (n / m) * m)) (pos (m - suc (n % m))) (omega arith)
     (ap pos (omega (arith, div-add-mod' n m, mod-lt n h)))
 
 pub remainder-is : (a : ℤ) (m : ℕ) → 0 < m → floorRemainder a (pos m) ≡ pos (remainderBy a m)
-unfolding floorQuotient floorRemainder
+unfolding floorRemainder
 remainder-is a m h =
-    linℤ 3 (λ a p r. p ⊕ r ≗ a ⇒ so (a ⊖ p ≗ r)) a (floorBy a m *ℤ pos m) (pos (remainderBy a m)) (omega arith) (floorBy-total a m h)
+    linℤ 3 (λ a p r. p ⊕ r ≗ a ⇒ so (a ⊖ p ≗ r)) a (floorQuotient a (pos m) *ℤ pos m) (pos (remainderBy a m)) (omega arith) (floor-sum a m h)
 
 pub remainder-nonneg : (a : ℤ) (m : ℕ) → 0 < m → pos 0 ≤ℤ floorRemainder a (pos m)
 remainder-nonneg a m h = rw (remainder-is a m h) (pos-≤ℤ zero-le)

@@ -7,6 +7,7 @@ pub mod Absolute
 pub mod Floor
 pub mod Machine
 pub mod Truncated
+pub mod NearestLaws
 pub mod Fraction
 pub mod Bound
 pub mod RootLaws

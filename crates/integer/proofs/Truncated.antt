@@ -17,7 +17,7 @@ use Rattle.integer.proofs.IntegerRing.{ringℤ}
 use Rattle.integer.proofs.Linear.{linℤ, _⊴_, _⊲_, _⇒_, so}
 use Rattle.integer.proofs.Order.{≤-of-pos, pos-≤ℤ, product-nonneg}
 use Rattle.integer.proofs.Absolute.{natAbs-neg, natAbs-within, natAbs-of-fits, above-low-end, fits-of-natAbs}
-use Rattle.integer.proofs.Floor.{Divides, divides-turned, floor-unique, remainderBy, remainder-is, remainder-turned, natAbs-remainder}
+use Rattle.integer.proofs.Floor.{Divides, divides-turned, floor-unique, remainderBy, remainder-turned, natAbs-remainder}
 
 -- q and r are the floor quotient and remainder
 pub record RoundsDown (a d q r : ℤ) : Type 0 where
@@ -151,7 +151,7 @@ low-bits : (a : ℤ) → SFits w64 a → ofZ w64 a % 4096 ≡ remainderBy a 4096
 low-bits (pos n) f = refl
 low-bits (negsuc n) f = let h : n < 2 ^ 63 = f .sfits in omega arith
 
-pub masked-is-remainder : (a : ℤ) → SFits w64 a → toZ w64 (bitAnd (ofZ w64 a) 4095) ≡ floorRemainder a (pos 4096)
+pub masked-is-remainder : (a : ℤ) → SFits w64 a → toZ w64 (bitAnd (ofZ w64 a) 4095) ≡ pos (remainderBy a 4096)
 masked-is-remainder a f =
     let e : bitAnd (ofZ w64 a) 4095 ≡ ofZ w64 a % 4096 = and-mask (ofZ w64 a) 12 in
-    rw e (toZ-pos w64 (ofZ w64 a % 4096) (omega arith) ∙ ap pos (low-bits a f) ∙ sym (remainder-is a 4096 (omega arith)))
+    rw e (toZ-pos w64 (ofZ w64 a % 4096) (omega arith) ∙ ap pos (low-bits a f))

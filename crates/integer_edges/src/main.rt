@@ -1,11 +1,13 @@
 // Runs the divisions, the absolute value and the root of `integer` on their edges, one line each. `checker/integer_edges.py` makes the same lines.
 use integer::division::ceiling_quotient;
 use integer::division::floor_quotient;
-use integer::division::floor_quotient_4096;
 use integer::division::floor_remainder;
-use integer::division::floor_remainder_4096;
+use integer::division::nearest_quotient_4096;
+use integer::division::nearest_remainder_4096;
 use integer::magnitude::absolute;
 use integer::root::root;
+ghost use Prim.Native.Nat.{_≤_};
+ghost use lib.IntN.{natAbs};
 
 const LEAST: i64 = -9223372036854775808;
 
@@ -24,6 +26,22 @@ fn dividend(i: u64) -> i64 {
         10 => -1152921504606846976,
         11 => 9223372036854775807,
         _ => LEAST,
+    }
+}
+
+// Exact halves of 4096, on both sides of 0: the least, the next, one of the size of a total, and the greatest.
+fn half(i: u64) -> i64
+    ensures { λ h. ⌜ natAbs h ≤ 9223372036854773760 ⌝ }
+{
+    match i {
+        0 => 2048,
+        1 => -2048,
+        2 => 6144,
+        3 => -6144,
+        4 => 1152921504606849024,
+        5 => -1152921504606849024,
+        6 => 9223372036854773760,
+        _ => -9223372036854773760,
     }
 }
 
@@ -114,10 +132,10 @@ fn print_floor(a: i64, d: i64) {
 }
 
 fn print_by_4096(a: i64) {
-    io::write_all(1, b"4096");
+    io::write_all(1, b"nearest");
     print_signed(a);
-    print_signed(floor_quotient_4096(a));
-    print_unsigned(floor_remainder_4096(a));
+    print_signed(nearest_quotient_4096(a));
+    print_unsigned(nearest_remainder_4096(a));
     print_unsigned(absolute(a));
     io::write_all(1, b"\n");
 }
@@ -143,6 +161,21 @@ fn print_floors() {
     for i in 0..13 {
         print_by_divisors(dividend(i));
         print_by_4096(dividend(i));
+    }
+}
+
+// An exact half, and its neighbours.
+fn print_around_half(h: i64)
+    requires { ⌜ natAbs h ≤ 9223372036854773760 ⌝ }
+{
+    print_by_4096(h - 1);
+    print_by_4096(h);
+    print_by_4096(h + 1);
+}
+
+fn print_halves() {
+    for i in 0..8 {
+        print_around_half(half(i));
     }
 }
 
@@ -174,6 +207,7 @@ fn print_roots() {
 
 fn main() {
     print_floors();
+    print_halves();
     print_ceilings();
     print_roots();
 }

@@ -3,7 +3,8 @@
 use mathlib.Core.Path.{_≡_, refl}
 use mathlib.Core.List.{List, [], _∷_}
 use Prim.Native.Nat.{ℕ}
-use Rattle.integer.specs.Floor.{floorQuotient, floorRemainder}
+use Rattle.integer.specs.Floor.{floorQuotient}
+use Rattle.integer.specs.Nearest.{nearestQuotient, nearestRemainder}
 use Rattle.affine.specs.Lists.{tabulate, sum}
 use Rattle.affine.specs.PairOrder.{overPairs, firsts, seconds}
 use Rattle.affine.specs.Row.{span, low, high, agree, pairBelow, pairAbove, pairsBelow, pairsAbove, radius}
@@ -46,7 +47,7 @@ listingBytes =
     55 ∷ 32 ∷ 52 ∷ 48 ∷ 57 ∷ 54 ∷ 32 ∷ 52 ∷ 49 ∷ 54 ∷ 48 ∷ 32 ∷ 48 ∷ 32 ∷ 48 ∷ 10 ∷ []
 
 listing-printed : printed sheetBytes ≡ listingBytes
-unfolding sheetBytes listingBytes textOf scheduleText listing rowText refusalText firstAmong texts line numeral decimal readOf readSheet readLines readAs starts fieldsFrom fieldsAt run judged afterSign fieldAt store zeroSchedule evaluated worked withAnswer rowAnswer stepAnswer binaryAnswer testOf testLines faultAt lineOf numbers fault countsPass endsPass stepPasses ownRanges allNumbers after rowRefusal rangeRefusal rowsRefusal rangeOf sameOf partOf agree floorQuotient floorRemainder low high tabulate overPairs firsts seconds pairBelow pairAbove pairsBelow pairsAbove sum span linearTotals pairTotals radius squaredRadius dropped productOwn productRow
+unfolding sheetBytes listingBytes textOf scheduleText listing rowText refusalText firstAmong texts line numeral decimal readOf readSheet readLines readAs starts fieldsFrom fieldsAt run judged afterSign fieldAt store zeroSchedule evaluated worked withAnswer rowAnswer stepAnswer binaryAnswer testOf testLines faultAt lineOf numbers fault countsPass endsPass stepPasses ownRanges allNumbers after rowRefusal rangeRefusal rowsRefusal rangeOf sameOf partOf agree floorQuotient nearestQuotient nearestRemainder low high tabulate overPairs firsts seconds pairBelow pairAbove pairsBelow pairsAbove sum span linearTotals pairTotals radius squaredRadius dropped productOwn productRow
 listing-printed = refl
 
 -- no byte: the first line is missing

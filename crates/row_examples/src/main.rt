@@ -1,4 +1,4 @@
-// P1 to P13 and R1 to R6 (manual, section 5.13) over `affine`, a line for each: the numbers of the row and its own range, or the refusal. `checker/row_cases.py` says
+// P1 to P13, R1 to R6 and N1 to N5 (manual, section 5.13) over `affine`, a line for each: the numbers of the row and its own range, or the refusal. `checker/row_cases.py` says
 // which row owns which symbol, and makes the same lines.
 use affine::Answer;
 use affine::Range;
@@ -161,4 +161,9 @@ fn main() {
     root_of_input(b"R4", 4096, 8192, 0);
     root_of_input(b"R5", 0, 5, 0);
     root_of_input(b"R6", 1, 3, 0);
+    product_of_constants(b"N1", 2047, 1);
+    product_of_constants(b"N2", 2048, 1);
+    product_of_constants(b"N3", -2048, 1);
+    product_of_constants(b"N4", -2049, 1);
+    square_of_input(b"N5", 0, 64, 1);
 }

@@ -47,8 +47,8 @@ total-is c = operation-gives _*ℤ_ (x-fits c) (y-fits c) (total-fits c)
 mul-t : tie.Need-mul-t
 mul-t c = let s = c .before .before in operation-fits _*ℤ_ (x-fits s) (y-fits s) (total-fits s)
 
-floor-remainder-4096-requires : tie.Need-floor-remainder-4096-requires
-floor-remainder-4096-requires c κs = search needs
+nearest-remainder-4096-requires : tie.Need-nearest-remainder-4096-requires
+nearest-remainder-4096-requires c κs = search needs
 
 -- ---- the parts of both rows, as they are lent
 x-is : (c : tie.Start) → toZ w64 (ofZ w64 (c .args .t1 .centre)) ≡ c .args .t1 .centre
@@ -82,14 +82,14 @@ put-linear-requires c κs =
 abbrev Symbols : Type 0
 Symbols = tie.After-linear2
 
-abbrev centred : Symbols → tie.After-floor-remainder-4096
+abbrev centred : Symbols → tie.After-nearest-remainder-4096
 centred c = c .before .before .before .before .before .before .before
 
 abbrev from : Symbols → tie.Start
 from c = centred c .before .before .before
 
-centre-left : (c : Symbols) → centred c .floor-remainder-4096 .result ≡ natAbs (productRounding .remainder (centre (from c)))
-centre-left c = centred c .floor-remainder-4096 .ensures ∙ ap (λ t. natAbs (productRounding .remainder t)) (total-is (from c))
+centre-left : (c : Symbols) → centred c .nearest-remainder-4096 .result ≡ natAbs (productRounding .remainder (centre (from c)))
+centre-left c = centred c .nearest-remainder-4096 .ensures ∙ ap (λ t. natAbs (productRounding .remainder t)) (total-is (from c))
 
 linear-is : (c : Symbols) → c .before .put-linear .last .0 ≡ quotients (linearTotals (from c .args .t1) (from c .args .t3))
 linear-is c =
@@ -142,7 +142,7 @@ pair-is : (c : Pairs) → c .before .put-pairs .last .0 ≡ quotients (pairTotal
 pair-is c = c .before .put-pairs .ensures .0 ∙ ap quotients (totals-are c)
 
 remainders-is : (c : Pairs)
-    → centred (singles c) .floor-remainder-4096 .result + singles c .before .put-linear .result + c .before .put-pairs .result
+    → centred (singles c) .nearest-remainder-4096 .result + singles c .before .put-linear .result + c .before .put-pairs .result
     ≡ allRemainders (origin c .args .squares) (origin c .args .t1) (origin c .args .t3)
 remainders-is c =
     let s = origin c in
@@ -189,8 +189,8 @@ ceiling-quotient-requires c κs = search needs
 cast-linear : tie.Need-cast-linear
 cast-linear c = search needs
 
-floor-quotient-4096-requires : tie.Need-floor-quotient-4096-requires
-floor-quotient-4096-requires c κs = search needs
+nearest-quotient-4096-requires : tie.Need-nearest-quotient-4096-requires
+nearest-quotient-4096-requires c κs = search needs
 
 -- ---- the three parts of the row
 abbrev own-start : tie.After-ceiling-quotient → tie.Start
@@ -210,10 +210,10 @@ own-is c =
 own-small : (c : tie.After-ceiling-quotient) → c .ceiling-quotient .result < 2 ^ 63
 own-small c = omega (arith, own-is c, within (own-start c))
 
-row-is : (c : tie.After-floor-quotient-4096)
+row-is : (c : tie.After-nearest-quotient-4096)
     → let p = paired (c .before .before) in
     let g = origin p .args in
-    rowOfParts (toZ w64 (ofZ w64 (c .floor-quotient-4096 .result))) (set (singles p .before .put-linear .last .0) (g .own) (toZ w64 (c .before .ceiling-quotient .result)))
+    rowOfParts (toZ w64 (ofZ w64 (c .nearest-quotient-4096 .result))) (set (singles p .before .put-linear .last .0) (g .own) (toZ w64 (c .before .ceiling-quotient .result)))
     (p .before .put-pairs .last .0)
     ≡ productRow (g .squares) (g .own) (g .t1) (g .t3)
 unfolding productOwn productRow
@@ -221,7 +221,7 @@ row-is c =
     let q = c .before in
     let p = paired (q .before) in
     let s = origin p in
-    let centre-is = back (c .floor-quotient-4096 .ok) ∙ (rw (total-is s) at (c .floor-quotient-4096 .ensures)) in
+    let centre-is = back (c .nearest-quotient-4096 .ok) ∙ (rw (total-is s) at (c .nearest-quotient-4096 .ensures)) in
     let own = toZ-pos w64 (q .ceiling-quotient .result) (own-small q) ∙ ap pos (own-is q) in
     λ i. record { centre = centre-is i; linear = set (linear-is (singles p) i) (s .args .own) (own i); pair = pair-is p i }
 
@@ -238,7 +238,7 @@ multiply-spec =
     tie.close
     (tie.spec
     mul-t
-    floor-remainder-4096-requires
+    nearest-remainder-4096-requires
     slice-aggregate-put-linear
     put-linear-requires
     add-remainders
@@ -251,6 +251,6 @@ multiply-spec =
     cast-linear
     mul-linear
     array-set-from-linear
-    floor-quotient-4096-requires
+    nearest-quotient-4096-requires
     check-requires
     returns)

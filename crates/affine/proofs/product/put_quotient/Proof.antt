@@ -24,8 +24,8 @@ returns c =
     let zero-there = s .pre .1 in
     rw (is-zero c, quotient-zero, remainder-zero, ← zero-there) (sym (set-getD (s .args .out .now) (s .args .i) (pos 0)), refl)
 
-floor-quotient-4096-requires : tie.Need-floor-quotient-4096-requires
-floor-quotient-4096-requires c κs = search needs
+nearest-quotient-4096-requires : tie.Need-nearest-quotient-4096-requires
+nearest-quotient-4096-requires c κs = search needs
 
 mul-t6 : tie.Need-mul-t6
 mul-t6 c = search needs
@@ -33,8 +33,8 @@ mul-t6 c = search needs
 slice-set-from-out : tie.Need-slice-set-from-out
 slice-set-from-out c = search needs
 
-floor-remainder-4096-requires : tie.Need-floor-remainder-4096-requires
-floor-remainder-4096-requires c κs = search needs
+nearest-remainder-4096-requires : tie.Need-nearest-remainder-4096-requires
+nearest-remainder-4096-requires c κs = search needs
 
 same-length : tie.Need-same-length
 same-length c = search needs
@@ -43,8 +43,8 @@ returns-2 : tie.Need-returns-2
 returns-2 c =
     let q = c .before in
     let s = q .before .before in (
-      ap (set (s .args .out .now) (s .args .i)) (back (q .floor-quotient-4096 .ok) ∙ (rw (total-is s) at (q .floor-quotient-4096 .ensures))),
-      rw (total-is s) at (c .floor-remainder-4096 .ensures),
+      ap (set (s .args .out .now) (s .args .i)) (back (q .nearest-quotient-4096 .ok) ∙ (rw (total-is s) at (q .nearest-quotient-4096 .ensures))),
+      rw (total-is s) at (c .nearest-remainder-4096 .ensures),
     )
 
 pub put-quotient-spec : {M : Type 1} → statement M
@@ -52,9 +52,9 @@ put-quotient-spec =
     tie.close
     (tie.spec
     returns
-    floor-quotient-4096-requires
+    nearest-quotient-4096-requires
     mul-t6
     slice-set-from-out
-    floor-remainder-4096-requires
+    nearest-remainder-4096-requires
     same-length
     returns-2)
