@@ -1,6 +1,9 @@
 """Answers of another implementation, stored in tests/samples/: what each is given, and what it
 answers.
 
+Kept are the answers that hold of the specification as it stands: where a later request changes what
+decides an answer, it goes.
+
 An object of JSON a line. The text of a sheet stands byte for byte, as code points 0 to 255. A
 schedule is its counts, and its ends and steps as far as the counts go; beyond the counts it holds 0.
 """

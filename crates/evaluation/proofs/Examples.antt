@@ -1,5 +1,5 @@
--- "Proved examples" P1 to P13, R1 to R7 of roots, and N1 to N5 of products to the nearest (manual, section 5.13), over the definitions that the contracts cite: cases as data, and one test that the checker
--- evaluates.
+-- "Proved examples" P1 to P13, R1 to R7 of roots, and N1 to N5 of products to the nearest (manual, section 5.13), over the definitions that the contracts
+-- cite: cases as data, and one test that the checker evaluates.
 use mathlib.Core.Path.{_≡_, refl}
 use mathlib.Core.List.{List, [], _∷_, _++_, map}
 use Prim.Native.Nat.{ℕ, _-_, _*_}

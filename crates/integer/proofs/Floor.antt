@@ -172,9 +172,6 @@ ceiling-least n d q h k =
     let l : ceilingQuotient n d < suc q = div-lt-iff-lt-mul h .1 s in
     omega arith
 
-pub ceiling-monotone : {m n d : ℕ} → 0 < d → m ≤ n → ceilingQuotient m d ≤ ceilingQuotient n d
-ceiling-monotone {m} {n} {d} h k = let c = ceiling-covers n d h in ceiling-least m d (ceilingQuotient n d) h (omega arith)
-
 pub ceiling-at-most : (n d : ℕ) → 0 < d → ceilingQuotient n d ≤ n
 ceiling-at-most n (suc d) h = ceiling-least n (suc d) n h (omega arith)
 

@@ -8,7 +8,7 @@ use Prim.Native.Nat.{ℕ, zero, suc, zero-le}
 use native.Mathlib.Omega.{arith}
 use lib.Dec.{T, ltb}
 use lib.IntN.{ℤ, pos, negsuc, _+ℤ_, _*ℤ_}
-use lib.Signed.{ltZ, _≤ℤ_, _<ℤ_, ltZ-yes, <ℤ-irrefl, clashℤ}
+use lib.Signed.{ltZ, _≤ℤ_, _<ℤ_, ltZ-yes, clashℤ}
 use Rattle.integer.specs.Fraction.{Fraction, _≈_, _≤ℚ_, _<ℚ_, _+ℚ_, _*ℚ_, negℚ, over, whole, exchange, reciprocal, _/ℚ_}
 use Rattle.integer.proofs.Ring.{CommutativeRing, var, con, _⊕_, _⊗_, neg, _≐_}
 use Rattle.integer.proofs.IntegerRing.{ringℤ}
@@ -239,15 +239,6 @@ pub ≤ℚ-of-not-below : {x y : Fraction} → ¬ (x <ℚ y) → y ≤ℚ x
 pub ≈-zero-of-upper : {x : Fraction} → x .upper ≡ pos 0 → x ≈ whole (pos 0)
 ≈-zero-of-upper {x} e = record { cross = linℤ 2 (λ a a′. a ≗ con (pos 0) ⇒ so (a ⊗ con (pos 1) ≗ con (pos 0) ⊗ a′)) (x .upper) (x .lower) (omega arith) e }
 
-pub upper-of-≈-zero : {x : Fraction} → x ≈ whole (pos 0) → x .upper ≡ pos 0
-upper-of-≈-zero {x} e = linℤ 2 (λ a a′. a ⊗ con (pos 1) ≗ con (pos 0) ⊗ a′ ⇒ so (a ≗ con (pos 0))) (x .upper) (x .lower) (omega arith) (e .cross)
-
-pub nonzero-above : {x : Fraction} → whole (pos 0) <ℚ x → x .upper ≢ pos 0
-nonzero-above {x} h e = <ℤ-irrefl (linℤ 2 (λ a a′. con (pos 0) ⊗ a′ ⊲ a ⊗ con (pos 1) ⇒ a ≗ con (pos 0) ⇒ so (a ⊲ a)) (x .upper) (x .lower) (omega arith) (h .cross) e)
-
-pub nonzero-below : {x : Fraction} → x <ℚ whole (pos 0) → x .upper ≢ pos 0
-nonzero-below {x} h e = <ℤ-irrefl (linℤ 2 (λ a a′. a ⊗ con (pos 1) ⊲ con (pos 0) ⊗ a′ ⇒ a ≗ con (pos 0) ⇒ so (a ⊲ a)) (x .upper) (x .lower) (omega arith) (h .cross) e)
-
 -- ---- reciprocal and quotient
 times-exchange : (x : Fraction) (u : ℤ) → x .upper ≡ u → u ≢ pos 0 → x *ℚ exchange u (x .lower) ≈ whole (pos 1)
 unfolding _*ℚ_ exchange
@@ -264,17 +255,6 @@ times-reciprocal x n = times-exchange x (x .upper) refl n
 pub times-quotient : (x y : Fraction) → y .upper ≢ pos 0 → y *ℚ (x /ℚ y) ≈ x
 times-quotient x y n =
     certify orderedFractions 3 (λ x y r. (y ⊗ r ≋ con (pos 1)) ∷ [] ⊢ (y ⊗ (x ⊗ r) ≋ x)) 0 (eqn (var 0) 0) tt x y (reciprocal y) (times-reciprocal y n)
-
--- what times y is 1 is y's reciprocal
-pub reciprocal-unique : (x y : Fraction) → x .upper ≢ pos 0 → x *ℚ y ≈ whole (pos 1) → y ≈ reciprocal x
-reciprocal-unique x y n e =
-    certify orderedFractions 3 (λ x y r. (x ⊗ r ≋ con (pos 1)) ∷ (x ⊗ y ≋ con (pos 1)) ∷ [] ⊢ (y ≋ r)) 0
-    (eqn (neg (var 1)) 0 ⊞ eqn (var 2) 1) tt x y (reciprocal x) (times-reciprocal x n) e
-
-pub reciprocal-cong : {x y : Fraction} → x .upper ≢ pos 0 → x ≈ y → reciprocal x ≈ reciprocal y
-reciprocal-cong {x} {y} n e =
-    reciprocal-unique y (reciprocal x) (λ z. n (upper-of-≈-zero (≈-trans e (≈-zero-of-upper z))))
-    (≈-trans (*ℚ-cong (≈-sym e) (≈-refl (reciprocal x))) (times-reciprocal x n))
 
 -- a whole number over d
 pub times-over : (z : ℤ) (d : ℕ) (t : T (ltb 0 d)) → whole (pos d) *ℚ over z d t ≈ whole z

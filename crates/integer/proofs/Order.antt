@@ -62,10 +62,6 @@ pub square-nonneg : (a : ℤ) → pos 0 ≤ℤ (a *ℤ a)
 square-nonneg (pos n) = pos-≤ℤ zero-le
 square-nonneg (negsuc n) = pos-≤ℤ zero-le
 
-pub product-monotone : {a b c : ℤ} → pos 0 ≤ℤ c → a ≤ℤ b → (c *ℤ a) ≤ℤ (c *ℤ b)
-product-monotone {a} {b} {c} h k =
-    linℤ 3 (λ a b c. con (pos 0) ⊴ c ⊗ (b ⊖ a) ⇒ so (c ⊗ a ⊴ c ⊗ b)) a b c (omega arith) (product-nonneg h (difference-nonneg k))
-
 -- ---- a positive factor cancels
 pub nonneg-of-product : (x d : ℤ) → pos 0 <ℤ d → pos 0 ≤ℤ (x *ℤ d) → pos 0 ≤ℤ x
 nonneg-of-product (pos a) d h k = pos-≤ℤ zero-le

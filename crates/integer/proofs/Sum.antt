@@ -4,7 +4,7 @@ use mathlib.Core.Path.{_≡_, sym, _∙_, subst}
 use mathlib.Core.List.{List, [], _∷_, _++_, map}
 use mathlib.Core.Logic.{_≢_, _⊎_, inl, inr}
 use Prim.Native.Nat.{ℕ, zero, suc, _+_, _*_, _≤_, _<_}
-use native.Mathlib.Nat.{add-zero, zero-add, suc-add}
+use native.Mathlib.Nat.{zero-add, suc-add}
 use native.Mathlib.Numerals.{add-one}
 use native.Mathlib.Omega.{arith}
 use lib.ListN.{length, getD, take, set}
@@ -115,12 +115,6 @@ module _ (𝓡 : CommutativeRing) where
       (dot-append a b (λ i. w (suc i))
       ⨟ add-cong (rfl _) (dot-cong b (λ i l. subst (λ j. w (suc (length a + i)) ~ w j) (sym (suc-add (length a) i)) (rfl _))))
       ⨟ ring 𝓡 3 (λ x A B. x ⊕ (A ⊕ B) ≐ x ⊕ A ⊕ B) tt _ _ _
-
-  -- one coefficient more
-  pub dot-more : (a : List ℤ) (x : ℤ) (w : ℕ → C) → dot (a ++ (x ∷ [])) w ~ dot a w ⊹ k x · w (length a)
-  dot-more a x w =
-      dot-append a (x ∷ []) w
-      ⨟ add-cong (rfl _) (dot-cons x [] _ ⨟ add-cong (mul-cong (rfl _) (subst (λ j. w (length a + 0) ~ w j) (add-zero (length a)) (rfl _))) (dot-nil _) ⨟ ring 𝓡 1 (λ t. t ⊕ con (pos 0) ≐ t) tt _)
 
   -- each coefficient taken apart, as a number is into its quotient and remainder
   pub dot-split : (c : ℤ) (f g : ℤ → ℤ) → ((x : ℤ) → x ≡ c *ℤ f x +ℤ g x) → (a : List ℤ) (w : ℕ → C)
