@@ -10,7 +10,7 @@ DIVIDENDS = [0, 1, -1, 4095, -4095, 4096, -4096, 4097, -4097, 2**60, -2**60, GRE
 HALVES = [sign * half for half in (2048, 6144, 2**60 + 2048, 2**63 - 2048) for sign in (1, -1)]
 DIVISORS = [1, -1, 3, -3, 4096, -4096, 2**30, -2**30, GREATEST, LEAST]
 NATURALS = [1, 3, 4095, 4096, 2**30, 2**60, MOST - 1, MOST]
-SQUARES = [9, 2**24, 2**42, (2**32 - 1) ** 2]
+SQUARES = [9, 2**24, 2**42, 2**44, (2**32 - 1) ** 2]
 RADICANDS = [0, 1, 2, 3, 4, *(n + d for n in SQUARES for d in (-1, 0, 1)), MOST]
 
 

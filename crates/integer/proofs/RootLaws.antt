@@ -10,7 +10,7 @@ use lib.IntN.{ℤ, pos, negsuc, _*ℤ_}
 use lib.Signed.{_≤ℤ_, _<ℤ_}
 use Rattle.integer.specs.Floor.{floorQuotient}
 use Rattle.integer.specs.Fraction.{Fraction, _≤ℚ_, _<ℚ_, whole}
-use Rattle.integer.specs.Root.{IsRoot, oneMore, rootIn, root, integerRoot, floorRoot, Is-root, Root-unique, Is-floor-root}
+use Rattle.integer.specs.Root.{Start, IsRoot, oneMore, rootIn, root, integerRoot, floorRoot, Is-root, Root-unique, Is-floor-root}
 use Rattle.integer.proofs.Ring.{con, _⊗_}
 use Rattle.integer.proofs.Linear.{linℤ, _⊴_, _⇒_, so}
 use Rattle.integer.proofs.Order.{pos-≤ℤ, pos-<ℤ, <-of-pos}
@@ -61,8 +61,8 @@ pub record Gap (n r width : ℕ) : Type 0 where
   pub exponent : ℕ
   pub power : width ≡ 2 ^ exponent
 
-pub gap-whole : (n : ℕ) → n < 2 ^ 64 → Gap n 0 (2 ^ 32)
-gap-whole n h = record { from = omega arith; to = omega arith; room = omega arith; exponent = 32; power = refl }
+pub gap-whole : {n width : ℕ} → Start n width → Gap n 0 width
+gap-whole s = record { from = omega arith; to = omega (arith, s .above); room = omega (arith, s .room); exponent = s .exponent; power = s .power }
 
 -- a width above 1 is twice its half
 record Halves (width : ℕ) : Type 0 where

@@ -2,7 +2,7 @@
 -- not above, and the only one.
 use mathlib.Core.Bool.{Bool, true, false}
 use mathlib.Core.Path.{_≡_}
-use Prim.Native.Nat.{ℕ, zero, suc, _*_, _/_, _≤_, _<_}
+use Prim.Native.Nat.{ℕ, zero, suc, _*_, _/_, _^_, _≤_, _<_}
 use lib.Dec.{leb}
 use lib.IntN.{ℤ, pos, negsuc}
 use Rattle.integer.specs.Floor.{floorQuotient}
@@ -50,3 +50,10 @@ Root-unique = (n r : ℕ) → IsRoot n r → r ≡ root n
 abbrev pub Is-floor-root : Type 0
 Is-floor-root =
     (x : Fraction) → whole (pos 0) ≤ℚ x → let r = floorRoot x in (whole (pos (r * r)) ≤ℚ x) × (x <ℚ whole (pos (suc r * suc r)))
+
+-- ---- the width that a search starts with (not of the specification): a power of 2, at most 2^32, whose square is above n
+pub record Start (n width : ℕ) : Type 0 where
+  pub above : n < width * width
+  pub room : width ≤ 2 ^ 32
+  pub exponent : ℕ
+  pub power : width ≡ 2 ^ exponent

@@ -73,7 +73,7 @@ fn natural(i: u64) -> u64 {
     }
 }
 
-// Squares and their neighbours, the greatest square of all, and the greatest number.
+// Squares and their neighbours, 2^44 where the search gets wider and the greatest square among them, and the greatest number.
 fn radicand(i: u64) -> u64 {
     match i {
         0 => 0,
@@ -90,9 +90,12 @@ fn radicand(i: u64) -> u64 {
         11 => 4398046511103,
         12 => 4398046511104,
         13 => 4398046511105,
-        14 => 18446744065119617024,
-        15 => 18446744065119617025,
-        16 => 18446744065119617026,
+        14 => 17592186044415,
+        15 => 17592186044416,
+        16 => 17592186044417,
+        17 => 18446744065119617024,
+        18 => 18446744065119617025,
+        19 => 18446744065119617026,
         _ => 18446744073709551615,
     }
 }
@@ -200,7 +203,7 @@ fn print_root(n: u64) {
 }
 
 fn print_roots() {
-    for i in 0..18 {
+    for i in 0..21 {
         print_root(radicand(i));
     }
 }

@@ -1,14 +1,14 @@
--- `print_roots` is safe and ends: the loop counts to 18.
+-- `print_roots` is safe and ends: the loop counts to 21.
 use Prim.Native.Nat.{_≤_, _-_}
 use borrow.Author.Needs.{needs}
 use Rattle.integer_edges.proofs.print_roots.Statement.{statement}
 use Rattle.integer_edges.proofs.print_roots.Tie as tie
 
 abbrev Inv-loop : tie.InvT-loop
-Inv-loop i₀ i = i ≤ 18
+Inv-loop i₀ i = i ≤ 21
 
 abbrev μ-loop : tie.MeasureT-loop
-μ-loop i₀ i = 18 - i
+μ-loop i₀ i = 21 - i
 
 loop-holds : tie.Need-loop-holds Inv-loop μ-loop
 loop-holds c = search needs

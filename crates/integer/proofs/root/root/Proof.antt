@@ -1,51 +1,21 @@
--- `root` meets its contract: the loop halves the gap in which the root lies.
+-- `root` meets its contract: either width is a power of 2 whose square is above n.
+use mathlib.Core.Path.{refl}
 use native.Mathlib.Omega.{arith}
 use borrow.Author.Needs.{needs}
-use Rattle.integer.proofs.RootLaws.{Gap, gap-whole, half-within, half-square, gap-upper, gap-lower, gap-closed}
 use Rattle.integer.proofs.root.root.Statement.{statement}
 use Rattle.integer.proofs.root.root.Tie as tie
 
-abbrev Inv-loop : tie.InvT-loop
-Inv-loop n r₀ width₀ r width = Gap n r width
+search-requires : tie.Need-search-requires
+search-requires c κs = record { above = omega (arith, c .if1 .taken); room = omega arith; exponent = 22; power = refl }
 
-abbrev μ-loop : tie.MeasureT-loop
-μ-loop n r₀ width₀ r width = width
+returns : tie.Need-returns
+returns c = search needs
 
-loop-holds : tie.Need-loop-holds Inv-loop μ-loop
-loop-holds c = gap-whole _ (search needs)
+search-requires-2 : tie.Need-search-requires-2
+search-requires-2 c κs = record { above = search needs; room = omega arith; exponent = 32; power = refl }
 
-add-t : tie.Need-add-t Inv-loop μ-loop
-add-t c = record { fits = omega (arith, half-within (c .before .loop .inv) (c .loop-test .taken)) }
-
-mul-if1 : tie.Need-mul-if1 Inv-loop μ-loop
-mul-if1 c = record { fits = half-square (c .before .loop .inv) (c .loop-test .taken) }
-
-loop-less : tie.Need-loop-less Inv-loop μ-loop
-loop-less c = omega (arith, c .before .loop-test .taken)
-
-loop-again : tie.Need-loop-again Inv-loop μ-loop
-loop-again c = gap-upper (c .before .before .loop .inv) (c .before .loop-test .taken) (c .if1 .taken)
-
-loop-less-2 : tie.Need-loop-less-2 Inv-loop μ-loop
-loop-less-2 c = omega (arith, c .before .loop-test .taken)
-
-loop-again-2 : tie.Need-loop-again-2 Inv-loop μ-loop
-loop-again-2 c = gap-lower (c .before .before .loop .inv) (c .before .loop-test .taken) (c .if1 .left)
-
-returns : tie.Need-returns Inv-loop μ-loop
-returns c = gap-closed (c .before .loop .inv) (c .loop-test .left)
+returns-2 : tie.Need-returns-2
+returns-2 c = search needs
 
 pub root-spec : {M : Type 1} → statement M
-root-spec =
-    tie.close
-    (tie.spec
-    Inv-loop
-    μ-loop
-    loop-holds
-    add-t
-    mul-if1
-    loop-less
-    loop-again
-    loop-less-2
-    loop-again-2
-    returns)
+root-spec = tie.close (tie.spec search-requires search-requires-2 returns returns-2)
