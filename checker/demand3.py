@@ -4,8 +4,9 @@
 
 The specification, demand 3 and "The words of demand 3" (manual, section 4). `violations` checks
 every clause on one accepted schedule, for one choice of inputs within their ends and one choice of
-noise symbols. A row's range is there its answered range, as the second table holds it. spoilt.py
-holds ways to get rows and ranges wrong in which it must find violations.
+noise symbols. A row's range is there its answered range, as the second table holds it. It also
+checks what the request 2026-06 says of the ranges that this one is made from. spoilt.py holds ways
+to get rows and ranges wrong in which it must find violations.
 """
 
 import math
@@ -15,6 +16,7 @@ from fractions import Fraction
 
 import evaluation
 import generate
+import intervals
 import rows
 import sheet
 
@@ -25,6 +27,11 @@ DIVISOR = "no exact divisor is zero"
 ROOT = "every exact value that a root names is at least a unit"
 RANGE = "each exact value lies in its row's range"
 SAME = "rows of one sheet with identical numbers have equal exact values"
+
+# "It holds the exact value and is never empty."; so both ranges of which it is the overlap hold it.
+OWN_RANGE = "each exact value lies in its row's own range"
+PLAIN_RANGE = "each exact value lies in its row's plain range"
+NEVER_EMPTY = "no row's answered range is empty"
 
 # Exact values of long products have millions of digits; such a sheet is left out.
 BITS_LIMIT = 4_000
@@ -140,11 +147,22 @@ def in_range(value: Fraction, low: int, high: int) -> bool:
     return Fraction(low, rows.UNIT) <= value <= Fraction(high, rows.UNIT)
 
 
+def each_in_range(exact, ranges) -> bool:
+    return all(in_range(value, *ends) for value, ends in zip(exact, ranges))
+
+
+def is_refused(schedule) -> bool:
+    """Whether evaluation refuses a schedule. One that comes to a row without a range counts as
+    accepted: that is a violation."""
+    try:
+        return evaluation.work(schedule).number != 0
+    except intervals.NoRange:
+        return False
+
+
 def violations(schedule, inputs, symbols) -> list[str]:
-    """The clauses of demand 3 that fail, for inputs within their ends and any symbols."""
-    count = evaluation.row_count(schedule)
-    table, ranges = [0] * (rows.NUMBERS * count), [0] * (evaluation.RANGE_NUMBERS * count)
-    if evaluation.evaluate(schedule, table, ranges).number:
+    """The clauses that fail, for inputs within their ends and any symbols."""
+    if is_refused(schedule):
         raise ValueError("demand 3 speaks of accepted sheets")
     if not all(in_range(value, *end) for value, end in zip(inputs, schedule.ends)):
         raise ValueError("demand 3 speaks of inputs within their ends")
@@ -154,25 +172,33 @@ def violations(schedule, inputs, symbols) -> list[str]:
         return [DIVISOR]
     except NoRoot:
         return [ROOT]
+    count = evaluation.row_count(schedule)
+    table, ranges = [0] * (rows.NUMBERS * count), [0] * (evaluation.RANGE_NUMBERS * count)
+    try:
+        evaluation.evaluate(schedule, table, ranges)
+    except intervals.NoRange:
+        return [NEVER_EMPTY]
     numbers = range(1, count + 1)
     form_rows = [evaluation.row_part(table, count, number) for number in numbers]
     found = found_values(form_rows, exact)
     answers = [evaluation.row_range(table, ranges, count, number) for number in numbers]
+    worked = evaluation.work(schedule).rows
     failed = {
         EQUAL_EXACTLY_WHEN: not all(
             equal_exactly_when_found(form_rows, exact, found, choice)
             for choice in symbol_choices(found, symbols)
         ),
         FOUND: not all(-1 <= value <= 1 for value in found.values()),
-        RANGE: not all(
-            in_range(value, answer.low, answer.high) for value, answer in zip(exact, answers)
-        ),
+        RANGE: not each_in_range(exact, [(answer.low, answer.high) for answer in answers]),
         SAME: any(
             evaluation.same_rows(table, count, first, second).same
             and exact[first - 1] != exact[second - 1]
             for second in numbers
             for first in range(1, second)
         ),
+        OWN_RANGE: not each_in_range(exact, [row.own_range for row in worked]),
+        PLAIN_RANGE: not each_in_range(exact, [row.plain_range for row in worked]),
+        NEVER_EMPTY: any(answer.number for answer in answers),
     }
     return [clause for clause, fails in failed.items() if fails]
 
@@ -210,7 +236,7 @@ def any_symbols(rng) -> list[Fraction]:
 def check_sheet(seed, index: int):
     """The violations on one generated sheet, or None where it is refused or too long to work."""
     answer = sheet.read(generate.sheet_bytes(seed, index))
-    if answer.number or evaluation.work(answer.schedule).number:
+    if answer.number or is_refused(answer.schedule):
         return None
     rng = random.Random(f"{seed}/{index}/inputs")
     inputs, symbols = any_inputs(rng, answer.schedule), any_symbols(rng)

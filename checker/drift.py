@@ -5,8 +5,8 @@ it is rounded to the nearest.
     python3 checker/drift.py [COUNT]
 
 prints a line for each kind of sheet, as the manual has it in section 5.14: how many sheets count, and
-under both rules the mean error of the last row's centre and the mean width of its answered range, in
-units. The error is the centre less the exact value that the row has with every input at its own
+under both rules the mean error of the last row's centre, the mean width of its own range and that of
+its answered range, in units. The error is the centre less the exact value that the row has with every input at its own
 centre. Sheets that one of the rules refuses, and those whose exact values have too many digits, do
 not count.
 """
@@ -47,7 +47,8 @@ def worked(draft: generate.Draft, rule) -> generate.Draft:
 
 
 def measured(draft: generate.Draft):
-    """The errors under both rules, then the widths; nothing of a sheet that does not count."""
+    """The errors under both rules, then the widths of own and of answered ranges; nothing of a sheet
+    that does not count."""
     drafts = [worked(draft, rule) for rule in rules()]
     if any(again.refused for again in drafts):
         return None
@@ -58,12 +59,12 @@ def measured(draft: generate.Draft):
         return None
     lasts = [again.rows[-1] for again in drafts]
     errors = [last.numbers[0] - rows.UNIT * exact for last in lasts]
-    widths = [last.answered_range.high - last.answered_range.low for last in lasts]
-    return (*errors, *widths)
+    ranges = [last.own_range for last in lasts] + [last.answered_range for last in lasts]
+    return (*errors, *(high - low for low, high in ranges))
 
 
 def figures(kind, count: int = COUNT) -> list[str]:
-    """How many sheets of a kind count, and the four means."""
+    """How many sheets of a kind count, and the six means."""
     found = [measured(kind(random.Random(f"drift/{index}"))) for index in range(count)]
     columns = list(zip(*filter(None, found)))
     means = [round(float(statistics.mean(column)), 2) + 0.0 for column in columns]

@@ -1,17 +1,19 @@
 """Evaluation into two lent tables, and the calls that ask about rows of a table.
 
 The specification, causes 6 to 9 of "Causes and what follows" and 12 (manual, section 6), and the
-requests 2026-02 and 2026-04. A lent table is a Python list of numbers. The first holds the 52
-numbers of each row; the second, the table of ranges, holds two numbers a row: the low and the high
-that are answered.
+requests 2026-02, 2026-04 and 2026-06. A lent table is a Python list of numbers. The first holds the
+52 numbers of each row; the second, the table of ranges, holds two numbers a row: the low and the
+high that are answered.
 
-A row has two ranges. Its own range is that of its form, or of an input its ends; a reciprocal takes
-its test and its distance from there, a root its test and its low. Its answered range is what is
+A row has three ranges. Its own range is that of its form, or of an input its ends; a reciprocal
+takes its test and its distance from there, a root its test and its low. Its plain range is made
+from the answered ranges of its operands alone. Its answered range, the overlap of both, is what is
 stored, told and printed.
 """
 
 from typing import NamedTuple
 
+import intervals
 import rows
 import sheet
 
@@ -38,10 +40,11 @@ class SameAnswer(NamedTuple):
 
 
 class WorkedRow(NamedTuple):
-    """The 52 numbers of a row that came about, and its two ranges."""
+    """The 52 numbers of a row that came about, and its three ranges."""
 
     numbers: list
     own_range: rows.Range
+    plain_range: rows.Range
     answered_range: rows.Range
 
 
@@ -83,16 +86,40 @@ def own_range(schedule, row: int, numbers) -> rows.Range:
     return rows.form_range(numbers)
 
 
-def answered_range(own: rows.Range) -> rows.Range:
-    """The range that is answered for a row: its own."""
-    return own
+def plain_range(schedule, row: int, worked) -> rows.Range:
+    """"Each row also gets a plain range [...] from the answered ranges of its operands."; that of
+    an input is its ends, that of a constant its value."""
+    inputs = schedule.counts.inputs
+    if row <= inputs:
+        return rows.Range(*schedule.ends[row - 1])
+    step = schedule.steps[row - inputs - 1]
+    if step.code == sheet.CONSTANT:
+        return rows.Range(step.value, step.value)
+    first = worked[step.first - 1].answered_range
+    if step.code == sheet.RECIPROCAL:
+        return intervals.reciprocal(first)
+    if step.code == sheet.ROOT:
+        return intervals.root(first)
+    second = worked[step.second - 1].answered_range
+    if step.code == sheet.ADD:
+        return intervals.add(first, second)
+    if step.code == sheet.SUBTRACT:
+        return intervals.subtract(first, second)
+    return intervals.multiply(first, second)
+
+
+def answered_range(own: rows.Range, plain: rows.Range) -> rows.Range:
+    """"The answered and printed range is the overlap with the row's own. It holds the exact value
+    and is never empty."."""
+    return intervals.overlap(own, plain)
 
 
 def work_row(schedule, row: int, worked) -> WorkedRow:
     """A row with its ranges, from the rows worked before it."""
     numbers = input_or_step_numbers(schedule, row, worked)
     own = own_range(schedule, row, numbers)
-    return WorkedRow(numbers, own, answered_range(own))
+    plain = plain_range(schedule, row, worked)
+    return WorkedRow(numbers, own, plain, answered_range(own, plain))
 
 
 def row_count(schedule) -> int:

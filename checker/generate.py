@@ -525,11 +525,35 @@ def at_halves(rng) -> Draft:
     return then_anything(rng, draft)
 
 
+def as_wide_as_large(rng):
+    """Ends of either sign or about 0, whose distance is about as large as they are."""
+    near = rng.randint(1, 1 << rng.randint(1, 15))
+    far = near * rng.randint(1, 5) + rng.randint(0, near)
+    return rng.choice(((near, far), (near, far), (-far, -near), (-near, far), (-far, near), (0, far)))
+
+
+def wide_inputs(rng) -> Draft:
+    """Products, sums and differences of wide inputs, of which now the own range and now the plain one
+    is the narrower, and then the reciprocal or the root of a row whose answered range lies above 0:
+    by its own range it may be refused."""
+    inputs = rng.randint(1, 3)
+    draft = Draft(rng.randint(0, inputs), [as_wide_as_large(rng) for _ in range(inputs)])
+    for _ in range(rng.randint(1, 6)):
+        named = [rng.randint(1, draft.last()) for _ in range(2)]
+        draft.step(rng.choice((sheet.ADD, sheet.SUBTRACT, *[sheet.MULTIPLY] * 3)), *named)
+        if draft.refused:
+            draft.undo()
+    above = [row for row, worked in enumerate(draft.rows, 1) if worked.answered_range.low > 0]
+    if above:
+        draft.step(rng.choice((sheet.RECIPROCAL, sheet.ROOT)), max(rng.choices(above, k=2)))
+    return then_anything(rng, draft)
+
+
 EXTREMES = [
     limit_ends, span_by_sums, span_by_product, range_at_zero, large_squares, mixed_pairs,
     reciprocal_chain, small_divisors, odd_ends, cancellation, long_products, large_roots,
     small_above_large, roots_of_squares, roots_of_low_ends, root_chain, at_halves,
-    constant_chain, narrow_chain,
+    constant_chain, narrow_chain, wide_inputs,
 ]
 
 

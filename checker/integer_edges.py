@@ -22,7 +22,7 @@ def nearest(a, d):
 
 def print_by_4096(a):
     quotient = nearest(a, 4096)
-    print("nearest", a, quotient, abs(a - 4096 * quotient), abs(a))
+    print("4096", a, a // 4096, quotient, abs(a - 4096 * quotient), abs(a))
 
 
 for a in DIVIDENDS:

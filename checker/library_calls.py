@@ -400,6 +400,32 @@ def calls_on_roots_at_the_span():
             yield from evaluated(lengths[0], 27, lengths[1], 28)
 
 
+# Inputs on either side of 0 and around it, far apart.
+WIDE_ENDS = [(4096, 12287), (-12287, -4096), (-8192, 12289), (-12289, 8192)]
+
+
+def schedules_of_wide_inputs():
+    """Products of inputs of every sign, with sums and differences of them; reciprocals and roots of
+    rows that start lower by themselves than they are answered, and so at 0 or below it."""
+    products = [(4, 1, 2, 0), (4, 1, 1, 0), (3, 3, 1, 0), (3, 4, 2, 0), (2, 3, 4, 0)]
+    for first, second in itertools.product(WIDE_ENDS, repeat=2):
+        yield sheet.schedule(0, [first, second], products)
+    of_square = [(4, 1, 1, 0), (5, 2, 0, 0), (6, 2, 0, 0), (4, 3, 4, 0), (3, 5, 1, 0), (2, 3, 3, 0)]
+    for ends in ((4096, 8192), (-8191, -4096), (4096, 9001)):
+        yield sheet.schedule(0, [ends], of_square)
+    for ends, code in itertools.product([(1, 2), (7, 30)], (sheet.RECIPROCAL, sheet.ROOT)):
+        yield sheet.schedule(0, [ends], [(2, 1, 1, 0), (4, 2, 2, 0), (code, 2, 0, 0)])
+
+
+def calls_on_wide_inputs():
+    """Each evaluated, its last range asked for."""
+    for schedule in schedules_of_wide_inputs():
+        count = evaluation.row_count(schedule)
+        yield SCHEDULE, *flat(schedule)
+        yield from evaluated(rows.NUMBERS * count, 31, ENDS * count, 32)
+        yield RANGE, count, count
+
+
 def asking(counts, asked):
     for count in counts:
         for row in asked:
@@ -632,6 +658,12 @@ def listings_of_good_sheets():
     yield from listed(sheet.text(LARGEST), (TABLE_ROOM, -1, RANGES_ROOM, -2))
 
 
+def listings_of_wide_inputs():
+    for schedule in schedules_of_wide_inputs():
+        count = evaluation.row_count(schedule)
+        yield from listed(sheet.text(schedule), (rows.NUMBERS * count, 33, ENDS * count, 34))
+
+
 def sampled_evaluations():
     """The schedules of another implementation's samples, evaluated."""
     for sample in samples.evaluations():
@@ -662,11 +694,11 @@ def formulas_read():
 def calls() -> list[tuple]:
     groups = (
         calls_on_schedules, calls_on_lengths, calls_on_refused_rows, calls_on_small_ends,
-        calls_on_roots, calls_on_roots_of_pairs, calls_on_roots_at_the_span,
+        calls_on_roots, calls_on_roots_of_pairs, calls_on_roots_at_the_span, calls_on_wide_inputs,
         calls_on_counts_and_rows, calls_on_lent_ranges, calls_on_lent_ends, calls_on_spans,
         calls_on_comparison, calls_on_an_evaluated_table, sampled_evaluations, sampled_ranges,
         listings_into_lent_bytes, listings_into_lent_tables, listings_of_refused_sheets,
-        listings_of_any_bytes, listings_of_good_sheets, formulas_read,
+        listings_of_any_bytes, listings_of_good_sheets, listings_of_wide_inputs, formulas_read,
     )
     return [call for group in groups for call in group()] + [(END,)]
 

@@ -14,7 +14,7 @@ TABLE_LENGTH = 1_560
 RANGES_LENGTH = 60
 TEXT_ROOM = 4_096
 
-# "This one is (x + 1)² - 2x"; "and it prints"
+# "This one is (x + 1)² - 2x"; "and it prints"; "In the listing of 01 row 4 now starts at 3136".
 EXAMPLE_SHEET = b"""\
 inputs squares steps
 1 1 6
@@ -34,7 +34,7 @@ row low high own same
 1 -512 512 512 0
 2 4096 4096 0 0
 3 3584 4608 0 0
-4 3072 5184 0 0
+4 3136 5184 0 0
 5 8192 8192 0 0
 6 -1024 1024 0 0
 7 4096 4160 0 0

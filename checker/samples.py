@@ -2,7 +2,9 @@
 answers.
 
 Kept are the answers that hold of the specification as it stands: where a later request changes what
-decides an answer, it goes.
+decides an answer, it goes. Of the answers from before 2026-06, a listing and a second table are kept
+where for every row the plain range, from the ranges that stand there, holds the row's own: there the
+overlap changes nothing. Refusals and ranges asked of lent tables are kept all.
 
 An object of JSON a line. The text of a sheet stands byte for byte, as code points 0 to 255. A
 schedule is its counts, and its ends and steps as far as the counts go; beyond the counts it holds 0.

@@ -1,21 +1,24 @@
 """Rows and sheets got wrong in one place at a time: what the checker must be able to notice.
 
 `spoilt(name)` is a context in which one module is wrong in the way named. In those of UNSOUND, in
-`rows`, and of UNSOUND_RANGES, in `evaluation`, demand 3 fails, and demand3.py must find a sheet
-where it does. Those of OTHER_NUMBERS and OTHER_RANGES give other numbers than the specification,
-those of OTHER_SHEETS read otherwise: the generated sheets must tell them all from the right ones,
-and the cases of sheet_cases.py the last. Those of OTHER_CALLS are wrong in `evaluation`, those of
-OTHER_LISTINGS in `listing` and those of OTHER_FORMULAS in `formula`, and the calls of
-library_calls.py must tell them, every fault of a range, and those of OF_PRODUCTS and OF_ROOTS.
+`rows`, of UNSOUND_RANGES, in `evaluation`, and of UNSOUND_INTERVALS, in `intervals`, demand 3 fails,
+and demand3.py must find a sheet where it does. Those of OTHER_NUMBERS, OTHER_RANGES and
+OTHER_INTERVALS give other numbers than the specification, those of OTHER_SHEETS read otherwise: the
+generated sheets must tell them all from the right ones, and the cases of sheet_cases.py the last.
+Those of OTHER_CALLS are wrong in `evaluation`, those of OTHER_LISTINGS in `listing` and those of
+OTHER_FORMULAS in `formula`, and the calls of library_calls.py must tell them, every fault of a range
+(FAULTS_OF_RANGES), and those of OF_PRODUCTS and OF_ROOTS.
 """
 
 import contextlib
+import math
 import re
 import unittest.mock
 from fractions import Fraction
 
 import evaluation
 import formula
+import intervals
 import listing
 import rows
 import sheet
@@ -728,6 +731,74 @@ def range_of_form(schedule, row, numbers):
     return rows.form_range(numbers)
 
 
+def code_of(schedule, row):
+    """The code of a step's row, and 0 of an input's."""
+    inputs = schedule.counts.inputs
+    return schedule.steps[row - inputs - 1].code if row > inputs else 0
+
+
+def numbers_with(code, change):
+    """The rows of one code are worked with another own range of their operand: the change is handed
+    the operand's row, and answers a range."""
+
+    def input_or_step_numbers(schedule, row, worked):
+        if code_of(schedule, row) == code:
+            worked = [earlier._replace(own_range=change(earlier)) for earlier in worked]
+        return REAL_CALLS["input_or_step_numbers"](schedule, row, worked)
+
+    return {"input_or_step_numbers": input_or_step_numbers}
+
+
+def holds_0(ends):
+    return ends.low <= 0 <= ends.high
+
+
+def overlap_for_distance(row):
+    """7 is tested by the own range, and the distance is that of the overlap."""
+    return row.own_range if holds_0(row.own_range) else row.answered_range
+
+
+def overlap_for_7(row):
+    """7 is tested by the overlap, and the distance is that of the own range where it has one."""
+    return row.answered_range if holds_0(row.own_range) and row.numbers[0] else row.own_range
+
+
+def overlap_for_low(row):
+    """12 is tested by the own range, and the low is that of the overlap."""
+    return row.own_range if row.own_range.low < 1 else row.answered_range
+
+
+def overlap_for_12(row):
+    """12 is tested by the overlap, and the low is that of the own range where it has one."""
+    return row.answered_range if row.own_range.low < 1 <= row.numbers[0] else row.own_range
+
+
+def plain_range_of_own_ranges(schedule, row, worked):
+    """The plain range is made from the own ranges of the operands."""
+    before = [earlier._replace(answered_range=earlier.own_range) for earlier in worked]
+    return REAL_CALLS["plain_range"](schedule, row, before)
+
+
+def plain_range_but_of(code):
+    """The rows of one code have no plain range, so that their own is answered."""
+
+    def plain_range(schedule, row, worked):
+        if code_of(schedule, row) == code:
+            return rows.Range(-(2**99), 2**99)
+        return REAL_CALLS["plain_range"](schedule, row, worked)
+
+    return {"plain_range": plain_range}
+
+
+def plain_range_of_squares(schedule, row, worked):
+    """A row times itself starts at 0 or above."""
+    plain = REAL_CALLS["plain_range"](schedule, row, worked)
+    step = schedule.steps[row - schedule.counts.inputs - 1]
+    if code_of(schedule, row) == sheet.MULTIPLY and step.first == step.second:
+        return plain._replace(low=max(plain.low, 0))
+    return plain
+
+
 def range_beside_row(table, ranges, count, row):
     """The range of the row that follows, or of the last."""
     answer = REAL_CALLS["row_range"](table, ranges, count, row)
@@ -930,6 +1001,7 @@ REAL_CALLS = {
     name: getattr(evaluation, name)
     for name in (
         "evaluate", "same_rows", "row_range", "range_refusal", "own_range", "ends_of", "store",
+        "plain_range", "input_or_step_numbers",
     )
 }
 
@@ -944,7 +1016,119 @@ OTHER_RANGES = {
     "an input's range taken from its form": {"own_range": range_of_form},
     "an input's range stored from its form": stored_as(lambda row: rows.form_range(row.numbers)),
     "low and high stored in the other order": stored_as(lambda row: row.answered_range[::-1]),
+    "the own range alone answered": {"answered_range": lambda own, plain: own},
+    "the plain range alone answered": stored_as(lambda row: row.plain_range),
+    "a plain range from the own ranges of the operands": {"plain_range": plain_range_of_own_ranges},
+    "no plain range of a sum": plain_range_but_of(sheet.ADD),
+    "no plain range of a difference": plain_range_but_of(sheet.SUBTRACT),
+    "no plain range of a product": plain_range_but_of(sheet.MULTIPLY),
+    "no plain range of a reciprocal": plain_range_but_of(sheet.RECIPROCAL),
+    "no plain range of a root": plain_range_but_of(sheet.ROOT),
+    "a plain range of squares from 0": {"plain_range": plain_range_of_squares},
+    "a reciprocal's distance that of the overlap": numbers_with(
+        sheet.RECIPROCAL, overlap_for_distance
+    ),
+    "the test of 7 by the overlap": numbers_with(sheet.RECIPROCAL, overlap_for_7),
+    "a root's low that of the overlap": numbers_with(sheet.ROOT, overlap_for_low),
+    "the test of 12 by the overlap": numbers_with(sheet.ROOT, overlap_for_12),
 }
+
+
+def difference_end_by_end(x, y):
+    """Low less low, and high less high."""
+    return rows.Range(min(x.low - y.low, x.high - y.high), max(x.low - y.low, x.high - y.high))
+
+
+def product_without(forgotten):
+    """One of the four products of ends is forgotten: that of low and low 0, low and high 1, high and
+    low 2, high and high 3."""
+
+    def multiply(x, y):
+        products = [first * second for first in x for second in y]
+        del products[forgotten]
+        return rows.Range(min(products) // rows.UNIT, rows.up(max(products), rows.UNIT))
+
+    return {"multiply": multiply}
+
+
+def product_by(down=floor, up=rows.up):
+    """A product with other divisions."""
+
+    def multiply(x, y):
+        products = [first * second for first in x for second in y]
+        return rows.Range(down(min(products), rows.UNIT), up(max(products), rows.UNIT))
+
+    return {"multiply": multiply}
+
+
+def reciprocal_by(down=floor, up=rows.up):
+    """A reciprocal with other divisions."""
+
+    def reciprocal(x):
+        REAL_INTERVALS["reciprocal"](x)
+        return rows.Range(down(rows.N, x.high), up(rows.N, x.low))
+
+    return {"reciprocal": reciprocal}
+
+
+def down_and_one(dividend, divisor):
+    return dividend // divisor + 1
+
+
+def up_less_one(dividend, divisor):
+    return rows.up(dividend, divisor) - 1
+
+
+def interval_root_by(low=math.isqrt, high=math.isqrt):
+    """A root with other roundings, its low end at most its high end."""
+
+    def root(x):
+        REAL_INTERVALS["root"](x)
+        high_end = high(rows.UNIT * x.high)
+        return rows.Range(min(low(rows.UNIT * x.low), high_end), high_end)
+
+    return {"root": root}
+
+
+def root_up(square):
+    root = math.isqrt(square)
+    return root if root * root == square else root + 1
+
+
+def union(x, y):
+    return rows.Range(min(x.low, y.low), max(x.high, y.high))
+
+
+REAL_INTERVALS = {name: getattr(intervals, name) for name in ("reciprocal", "root")}
+
+UNSOUND_INTERVALS = {
+    "a difference of low and low, high and high": {"subtract": difference_end_by_end},
+    "a product without low times low": product_without(0),
+    "a product without low times high": product_without(1),
+    "a product without high times low": product_without(2),
+    "a product without high times high": product_without(3),
+    "a product's low end rounded up": product_by(down=rows.up),
+    "a product's high end rounded down": product_by(up=floor),
+    "a product's high end left out": product_by(up=up_less_one),
+    "a product's ends rounded toward zero": product_by(toward_zero, toward_zero),
+    "a product's ends rounded to the nearest": product_by(to_nearest, to_nearest),
+    "a reciprocal's low end rounded up": reciprocal_by(down=rows.up),
+    "a reciprocal's high end rounded down": reciprocal_by(up=floor),
+    "a reciprocal's ends rounded toward zero": reciprocal_by(toward_zero, toward_zero),
+    "a root's low end rounded up": interval_root_by(low=root_up),
+}
+
+OTHER_INTERVALS = {
+    "the union for the overlap": {"overlap": union},
+    "a product's exact high end one higher": product_by(up=down_and_one),
+    "a reciprocal's exact high end one higher": reciprocal_by(up=down_and_one),
+    "a root's high end rounded up": interval_root_by(high=root_up),
+}
+
+# Every fault of a range, own, plain or answered.
+FAULTS_OF_RANGES = (
+    UNSOUND_RANGES | OTHER_RANGES | UNSOUND_INTERVALS | OTHER_INTERVALS | BY_FORM
+)
 
 OTHER_CALLS = {
     "8 before 9": asking_refusal_in(8, 9, 6),
@@ -1345,6 +1529,7 @@ def spoilt(name):
     """The module that the name's group is about, with the parts named replaced."""
     groups = [(rows, UNSOUND), (rows, OTHER_NUMBERS), (sheet, OTHER_SHEETS)]
     groups += [(evaluation, group) for group in (UNSOUND_RANGES, OTHER_RANGES, OTHER_CALLS)]
+    groups += [(intervals, group) for group in (UNSOUND_INTERVALS, OTHER_INTERVALS)]
     groups += [(listing, OTHER_LISTINGS), (formula, OTHER_FORMULAS)]
     module, parts = next((module, group[name]) for module, group in groups if name in group)
     with unittest.mock.patch.multiple(module, **parts):

@@ -22,8 +22,10 @@ import formula
 import formula_again
 import formula_cases
 import generate
+import intervals
 import library_calls
 import listing
+import overlap
 import rows
 import samples
 import sheet
@@ -55,8 +57,13 @@ def constant_steps(*values):
     return [(1, 0, 0, value) for value in values]
 
 
-def of_two_constants(code, first, second):
+def row_of_two_constants(code, first, second):
     """Constants as rows 2 and 3 of a sheet with one input 0 0, and row 4 their sum, product ..."""
+    return worked_rows(0, [(0, 0)], [*constant_steps(first, second), (code, 2, 3, 0)])[-1]
+
+
+def of_two_constants(code, first, second):
+    """The numbers of that row 4, or its refusal."""
     return last_row(0, [(0, 0)], [*constant_steps(first, second), (code, 2, 3, 0)])
 
 
@@ -93,8 +100,11 @@ class ProvedExamples(unittest.TestCase):
         self.assertEqual(row.answered_range, (-1, 0))
 
     def test_p3_1_times_1(self):
-        row = of_two_constants(4, 1, 1)
-        self.assertEqual(rows.form_range(row), (-1, 1))
+        """"the range of P3 becomes 0 to 1": 1/4096 of a unit, down and up."""
+        row = row_of_two_constants(4, 1, 1)
+        self.assertEqual(row.own_range, (-1, 1))
+        self.assertEqual(row.plain_range, (0, 1))
+        self.assertEqual(row.answered_range, (0, 1))
 
     def test_p4_minus_1_times_1(self):
         self.assertEqual(of_two_constants(4, -1, 1), numbers(0, {4: 1}))
@@ -113,9 +123,11 @@ class ProvedExamples(unittest.TestCase):
         self.assertEqual(row, numbers(9216, {1: 6144}, [1024]))
 
     def test_p9_square_with_squares_0(self):
-        row = last_row(0, [(4096, 8192)], [(4, 1, 1, 0)])
-        self.assertEqual(row, numbers(9216, {1: 6144, 2: 1024}))
-        self.assertEqual(rows.form_range(row), (2048, 16384))
+        """"that of P9 4096 to 16384": 1 times 1 to 2 times 2."""
+        row = worked_rows(0, [(4096, 8192)], [(4, 1, 1, 0)])[-1]
+        self.assertEqual(row.numbers, numbers(9216, {1: 6144, 2: 1024}))
+        self.assertEqual(row.own_range, (2048, 16384))
+        self.assertEqual(row.answered_range, (4096, 16384))
 
     def test_p10_reciprocal_with_squares_1(self):
         row = reciprocal_of_input(4096, 8192, 1)
@@ -137,7 +149,10 @@ class ProvedExamples(unittest.TestCase):
         self.assertEqual(of_two_constants(4, 268_435_456, 16_385), (6, 4))
 
     def test_the_listing_of_the_specification(self):
-        self.assertEqual(listing.listing(listing.EXAMPLE_SHEET), listing.EXAMPLE_LISTING)
+        """"In the listing of 01 row 4 now starts at 3136"."""
+        printed = listing.listing(listing.EXAMPLE_SHEET)
+        self.assertEqual(printed, listing.EXAMPLE_LISTING)
+        self.assertEqual(printed.split(b"\n")[4], b"4 3136 5184 0 0")
 
 
 class Traps(unittest.TestCase):
@@ -166,6 +181,15 @@ class Traps(unittest.TestCase):
     def test_half_the_width(self):
         with spoilt.spoilt("half the width as an input's own coefficient"):
             self.assertEqual(rows.high(rows.input_row(0, 1, 1)), 0)
+
+
+def answer_of(answer, data):
+    """What is answered for a sheet or for calls, or None where a range that is wrong in one place
+    leaves a later row without one."""
+    try:
+        return answer(data)
+    except intervals.NoRange:
+        return None
 
 
 def place_of(term):
@@ -544,11 +568,12 @@ class OddEnds(unittest.TestCase):
             self.assertEqual(rows.form_range(row.numbers), formed)
 
     def test_other_rows_have_the_range_of_their_form(self):
-        """A sum with 0 has the input's numbers and not its ends."""
+        """A sum with 0 has the input's numbers, and by itself not its ends: those are its plain
+        range."""
         _, _, total = worked_rows(0, [(1, 2)], [(1, 0, 0, 0), (2, 1, 2, 0)])
         self.assertEqual(total.numbers, numbers(1, {1: 1}))
         self.assertEqual(total.own_range, (0, 2))
-        self.assertEqual(total.answered_range, (0, 2))
+        self.assertEqual(total.answered_range, (1, 2))
         steps = [(1, 0, 0, 0), (2, 1, 2, 0), (5, 3, 0, 0)]
         self.assertEqual(worked_rows(0, [(1, 2)], steps), (7, 4))
 
@@ -572,6 +597,228 @@ class OddEnds(unittest.TestCase):
             self.assertEqual(reciprocal_of_input(low, high, 0), (7, 2))
         for low, high in [(1, 1), (-1, -1), (1, 2), (-2, -1), (1, 4), (-4, -1), (1, 2**13)]:
             self.assertEqual(len(reciprocal_of_input(low, high, 0)), 52)
+
+
+# Ranges on either side of 0 and around it, the product of each with each, and the four products of
+# their ends of which it is the least and the greatest: all in ones, as 3 for 12288 units.
+SIGNED_PRODUCTS = [
+    ((2, 3), (5, 7), (10, 21)),
+    ((2, 3), (-7, -5), (-21, -10)),
+    ((-3, -2), (5, 7), (-21, -10)),
+    ((-3, -2), (-7, -5), (10, 21)),
+    ((2, 3), (-5, 7), (-15, 21)),
+    ((-3, -2), (-5, 7), (-21, 15)),
+    ((-2, 3), (-5, 7), (-15, 21)),
+    ((-3, 2), (-5, 7), (-21, 15)),
+    ((-2, 3), (-7, 5), (-21, 15)),
+    ((-3, 2), (-7, 5), (-15, 21)),
+    ((0, 3), (-5, 0), (-15, 0)),
+    ((0, 0), (-5, 7), (0, 0)),
+]
+
+
+def ones(low, high):
+    """The range of so many ones."""
+    return rows.Range(4096 * low, 4096 * high)
+
+
+class Intervals(unittest.TestCase):
+    """Plain interval arithmetic, with numbers worked by hand."""
+
+    def test_sums_and_differences(self):
+        x, y = rows.Range(1, 5), rows.Range(-3, 10)
+        self.assertEqual(intervals.add(x, y), (-2, 15))
+        self.assertEqual(intervals.subtract(x, y), (-9, 8))
+        self.assertEqual(intervals.subtract(y, x), (-8, 9))
+        self.assertEqual(intervals.subtract(x, x), (-4, 4))
+
+    def test_products_of_every_sign(self):
+        for x, y, product in SIGNED_PRODUCTS:
+            self.assertEqual(intervals.multiply(ones(*x), ones(*y)), ones(*product))
+            self.assertEqual(intervals.multiply(ones(*y), ones(*x)), ones(*product))
+
+    def test_a_product_is_rounded_outward(self):
+        """4095, 4096 and 4097 times 1, over 4096, are 1 or one off; 64 times 64 is 4096."""
+        for first, second, product in [
+            (1, 1, (0, 1)),
+            (-1, 1, (-1, 0)),
+            (4095, 1, (0, 1)),
+            (4096, 1, (1, 1)),
+            (4097, 1, (1, 2)),
+            (-4095, 1, (-1, 0)),
+            (-4096, 1, (-1, -1)),
+            (-4097, 1, (-2, -1)),
+            (64, 64, (1, 1)),
+            (2**28, -(2**28), (-(2**44), -(2**44))),
+        ]:
+            x, y = rows.Range(first, first), rows.Range(second, second)
+            self.assertEqual(intervals.multiply(x, y), product)
+        self.assertEqual(intervals.multiply(rows.Range(-65, 64), rows.Range(64, 65)), (-2, 2))
+
+    def test_a_range_times_itself_has_no_rule_of_its_own(self):
+        """From -3 to 2 the squares lie from 0 to 9; the plain range starts at -3 × 2."""
+        self.assertEqual(intervals.multiply(ones(-3, 2), ones(-3, 2)), ones(-6, 9))
+
+    def test_reciprocals(self):
+        """N is 4096 × 4096, and 4095 × 4097 one less. N / 12288 is 1365 and a third, N / 3 is
+        5592405 and a third, N / 5 is 3355443 and a fifth."""
+        for ends, expected in [
+            ((4096, 8192), (2048, 4096)),
+            ((12288, 12288), (1365, 1366)),
+            ((3, 5), (3_355_443, 5_592_406)),
+            ((4095, 4097), (4095, 4098)),
+            ((1, 2**24), (1, 2**24)),
+            ((2**28, 2**28), (0, 1)),
+        ]:
+            low, high = expected
+            mirrored = rows.Range(-ends[1], -ends[0])
+            self.assertEqual(intervals.reciprocal(rows.Range(*ends)), expected)
+            self.assertEqual(intervals.reciprocal(mirrored), (-high, -low))
+
+    def test_no_reciprocal_of_a_range_that_holds_0(self):
+        for ends in [(0, 5), (-5, 0), (0, 0), (-1, 1)]:
+            with self.assertRaises(intervals.NoRange):
+                intervals.reciprocal(rows.Range(*ends))
+
+    def test_roots(self):
+        """4096 × 1023 is one less than 2047²; 4096 × 2 lies between 90² and 91², 4096 × 3 between
+        110² and 111², 4096 × 5 between 143² and 144², 4096 × 8192 between 5792² and 5793²."""
+        for ends, expected in [
+            ((1, 4), (64, 128)),
+            ((2, 3), (90, 110)),
+            ((5, 5), (143, 143)),
+            ((1023, 1024), (2046, 2048)),
+            ((4096, 8192), (4096, 5792)),
+            ((0, 2**28), (0, 2**20)),
+        ]:
+            self.assertEqual(intervals.root(rows.Range(*ends)), expected)
+        with self.assertRaises(intervals.NoRange):
+            intervals.root(rows.Range(-1, 5))
+
+    def test_overlaps(self):
+        for x, y, both in [
+            ((1, 5), (3, 9), (3, 5)),
+            ((1, 9), (3, 5), (3, 5)),
+            ((1, 5), (1, 5), (1, 5)),
+            ((-7, 2), (2, 4), (2, 2)),
+        ]:
+            self.assertEqual(intervals.overlap(rows.Range(*x), rows.Range(*y)), both)
+            self.assertEqual(intervals.overlap(rows.Range(*y), rows.Range(*x)), both)
+        with self.assertRaises(intervals.NoRange):
+            intervals.overlap(rows.Range(1, 2), rows.Range(3, 4))
+
+
+class PlainRanges(unittest.TestCase):
+    """Own, plain and answered ranges of rows, with numbers worked by hand."""
+
+    def test_inputs_and_constants(self):
+        worked = worked_rows(0, [(-3, 6)], constant_steps(-7))
+        for row, ends in zip(worked, [(-3, 6), (-7, -7)]):
+            self.assertEqual(row[1:], (ends, ends, ends))
+
+    def test_each_end_by_itself(self):
+        """x² - x for x from 0 to 3: 9/4 + 9/2 a + 9/4 b less 3/2 + 3/2 a is 3/4 + 3 a + 9/4 b, from
+        -9/2 to 6; and 0 to 9 less 0 to 3 is -3 to 9."""
+        row = worked_rows(0, [(0, 12288)], [(4, 1, 1, 0), (3, 2, 1, 0)])[-1]
+        self.assertEqual(row.own_range, (-18432, 24576))
+        self.assertEqual(row.plain_range, ones(-3, 9))
+        self.assertEqual(row.answered_range, (-12288, 24576))
+
+    def test_from_the_answered_ranges_of_the_operands(self):
+        """x² for x from 1 to 2 has the own range 1/2 to 4 (P9), and so has 1 times it; answered is 1
+        to 4, from which the plain range of that product is made."""
+        steps = [(4, 1, 1, 0), (1, 0, 0, 4096), (4, 2, 3, 0)]
+        _, square, _, product = worked_rows(0, [(4096, 8192)], steps)
+        self.assertEqual(square.answered_range, ones(1, 4))
+        self.assertEqual(product.own_range, (2048, 16384))
+        self.assertEqual(product.plain_range, ones(1, 4))
+
+    def test_the_own_range_where_terms_cancel(self):
+        """Row 7 of the specification's listing: row 4 less row 6, 3136 to 5184 less -1024 to 1024."""
+        row = evaluation.work(sheet.read(listing.EXAMPLE_SHEET).schedule).rows[6]
+        self.assertEqual(row.plain_range, (2112, 6208))
+        self.assertEqual(row.answered_range, (4096, 4160))
+
+    def test_rows_that_are_the_same_may_have_different_ranges(self):
+        """x² + y - y for x from 1 to 2 and y from 0 to 2: by intervals from 1 + 0 - 2 to 4 + 2 - 0."""
+        steps = [(4, 1, 1, 0), (2, 3, 2, 0), (3, 4, 2, 0)]
+        _, _, square, _, last = worked_rows(0, [(4096, 8192), (0, 8192)], steps)
+        self.assertEqual(last.numbers, square.numbers)
+        self.assertEqual(square.answered_range, ones(1, 4))
+        self.assertEqual(last.plain_range, ones(-1, 6))
+        self.assertEqual(last.answered_range, (2048, 16384))
+
+    def test_7_and_12_go_by_the_own_range(self):
+        """Twice an input with the ends 1 and 2: its own range is 0 to 4, the answered one 2 to 4."""
+        row = worked_rows(0, [(1, 2)], [(2, 1, 1, 0)])[-1]
+        self.assertEqual(row.own_range, (0, 4))
+        self.assertEqual(row.answered_range, (2, 4))
+        self.assertEqual(worked_rows(0, [(1, 2)], [(2, 1, 1, 0), (5, 2, 0, 0)]), (7, 3))
+        self.assertEqual(worked_rows(0, [(1, 2)], [(2, 1, 1, 0), (6, 2, 0, 0)]), (12, 3))
+
+    def test_the_distance_of_a_reciprocal_is_that_of_the_own_range(self):
+        """x² of P9 is 9216 + 6144 a + 1024 b, from 2048 by its form, answered from 4096. Its
+        candidate is 1820 - 1214 a - 203 b; 4096 + 6144 + 7168 + 7168 × 1417 over 2048 is 4968."""
+        row = worked_rows(0, [(4096, 8192)], [(4, 1, 1, 0), (5, 2, 0, 0)])[-1]
+        self.assertEqual(row.numbers, numbers(1820, {1: -1214, 2: -203, 3: 4968}))
+        self.assertEqual(row.own_range, (-4565, 8205))
+        self.assertEqual(row.answered_range, (1024, 4096))
+
+    def test_the_low_of_a_root_is_that_of_the_own_range(self):
+        """The same row: its candidate is 6144 + 2048 a + 341 b; 4096 + 2389² over 2896, the root of
+        4096 × 2048, up, is 1973."""
+        row = worked_rows(0, [(4096, 8192)], [(4, 1, 1, 0), (6, 2, 0, 0)])[-1]
+        self.assertEqual(row.numbers, numbers(6144, {1: 2048, 2: 341, 3: 1974}))
+        self.assertEqual(row.own_range, (1781, 10507))
+        self.assertEqual(row.answered_range, (4096, 8192))
+
+    def test_the_published_quotient(self):
+        """xy/z for x from 1 to 2, y from 3 to 4, z from 5 to 6 lies from 1/2 to 8/5, 4505.6 units
+        apart. N / 24576 is 682 and two thirds, N / 20480 is 819.2; 3 times 682, and 8 times 820."""
+        for squares, own in ((0, (1252, 6560)), (3, (1282, 6562))):
+            ends = [(4096, 8192), (12288, 16384), (20480, 24576)]
+            row = worked_rows(squares, ends, [(4, 1, 2, 0), (5, 3, 0, 0), (4, 4, 5, 0)])[-1]
+            self.assertEqual(row.own_range, own)
+            self.assertEqual(row.answered_range, (2046, 6560))
+        self.assertLess(row.answered_range.high - row.answered_range.low, 4505.6 + 10)
+
+    def test_intervals_alone(self):
+        """Without forms row 7 of the specification's listing lies from 3136 - 1024 to 5184 + 1024; a
+        row less itself holds 0, and what is divided by 1 less it has no range."""
+        found = overlap.intervals_alone(sheet.read(listing.EXAMPLE_SHEET).schedule)
+        self.assertEqual(found[3:], [(3136, 5184), (8192, 8192), (-1024, 1024), (2112, 6208)])
+        steps = [(3, 1, 1, 0), (1, 0, 0, 4096), (3, 3, 2, 0), (5, 4, 0, 0), (2, 5, 5, 0), (2, 2, 2, 0)]
+        handed = sheet.schedule(0, [(4096, 8192)], steps)
+        self.assertEqual(overlap.intervals_alone(handed)[1:4], [ones(-1, 1), ones(1, 1), ones(0, 2)])
+        self.assertEqual(overlap.intervals_alone(handed)[4:], [None, None, ones(-2, 2)])
+
+    def test_rows_of_every_kind_are_generated(self):
+        """The overlap is now the own range, now the plain one, and now neither; and sheets are
+        refused by 7 and by 12 where only the own range of the operand says so."""
+        found, refused = collections.Counter(), collections.Counter()
+        for schedule in schedules_read("overlaps", 3000):
+            worked = evaluation.work(schedule)
+            for row in worked.rows[schedule.counts.inputs :]:
+                found[row.answered_range == row.own_range, row.answered_range == row.plain_range] += 1
+            if worked.number in (7, 12):
+                step = schedule.steps[worked.place - schedule.counts.inputs - 1]
+                operand = worked.rows[step.first - 1]
+                refused[worked.number] += operand.answered_range.low > 0
+        self.assertGreater(min(found[kind] for kind in itertools.product((True, False), repeat=2)), 100)
+        self.assertGreater(min(refused[7], refused[12]), 15)
+
+    def test_no_number_and_no_refusal_goes_by_an_answered_range(self):
+        """With the own range answered the same rows come about, and the same refusals."""
+        narrowed = 0
+        for schedule in schedules_read("numbers", 2000):
+            worked = evaluation.work(schedule)
+            with spoilt.spoilt("the own range alone answered"):
+                again = evaluation.work(schedule)
+            self.assertEqual(again[1:], worked[1:])
+            for row, other in zip(worked.rows, again.rows, strict=True):
+                self.assertEqual(row[:2], other[:2])
+                narrowed += row.answered_range != other.answered_range
+        self.assertGreater(narrowed, 1000)
 
 
 def root_of_constant(value):
@@ -892,12 +1139,14 @@ class Samples(unittest.TestCase):
     """The answers of another implementation."""
 
     def test_listings(self):
+        """400 of 2026-06; 281 refusals and 57 listings of the requests before it."""
         found = samples.listings()
         for sample in found:
             self.assertEqual(listing.listing(sample.sheet), sample.printed)
-        self.assertEqual(len(found), 598)
+        self.assertEqual(len(found), 738)
 
     def test_evaluations(self):
+        """150 of 2026-06; of the requests before it 196 that write nothing and 14 that write rows."""
         found = samples.evaluations()
         for sample in found:
             tables = [[sample.fill] * length for length in sample.lengths]
@@ -905,7 +1154,7 @@ class Samples(unittest.TestCase):
             self.assertEqual(answer, sample.refusal, sample)
             for table, length, written in zip(tables, sample.lengths, sample.written):
                 self.assertEqual(table, written + [sample.fill] * (length - len(written)))
-        self.assertEqual(len(found), 230)
+        self.assertEqual(len(found), 360)
 
     def test_ranges(self):
         found = samples.ranges()
@@ -915,14 +1164,17 @@ class Samples(unittest.TestCase):
         self.assertEqual(len(found), 150)
 
     def test_the_listings_tell_every_fault_of_ranges(self):
+        """But one: no listing has a root of an input of odd sum whose own coefficient is another by
+        the form. The generated sheets tell it."""
         found = samples.listings()
-        for name in spoilt.UNSOUND_RANGES | spoilt.OTHER_RANGES | spoilt.BY_FORM:
+        for name in spoilt.FAULTS_OF_RANGES.keys() - {"a root's low that of the form"}:
             with self.subTest(name), spoilt.spoilt(name):
-                self.assertTrue(any(listing.listing(s.sheet) != s.printed for s in found))
+                pairs = ((answer_of(listing.listing, s.sheet), s.printed) for s in found)
+                self.assertTrue(any(answered != printed for answered, printed in pairs))
 
     def test_no_call_is_of_another_kind(self):
         kinds = collections.Counter(made["call"] for made in samples.objects("calls.jsonl"))
-        self.assertEqual(kinds, {"evaluate": 230, "range": 150})
+        self.assertEqual(kinds, {"evaluate": 360, "range": 150})
 
 
 def schedules_read(seed, count):
@@ -936,7 +1188,7 @@ def violated_clauses(schedules):
     choices of inputs and symbols."""
     for index, schedule in enumerate(schedules):
         rng = random.Random(index)
-        if evaluation.work(schedule).number:
+        if demand3.is_refused(schedule):
             continue
         for _ in range(2):
             inputs, symbols = demand3.any_inputs(rng, schedule), demand3.any_symbols(rng)
@@ -1028,19 +1280,22 @@ class Demand3(unittest.TestCase):
     def test_teeth(self):
         """In each unsound arithmetic a violation is found."""
         schedules = schedules_read("teeth", 2000)
-        for name in spoilt.UNSOUND | spoilt.UNSOUND_RANGES:
+        for name in spoilt.UNSOUND | spoilt.UNSOUND_RANGES | spoilt.UNSOUND_INTERVALS:
             with self.subTest(name), spoilt.spoilt(name):
                 self.assertTrue(any(violated_clauses(schedules)))
 
     def test_teeth_of_every_clause(self):
         """Each clause is found violated in some unsound arithmetic; that of roots: `Roots`."""
         clauses = {demand3.EQUAL_EXACTLY_WHEN, demand3.FOUND, demand3.DIVISOR, demand3.RANGE}
+        clauses |= {demand3.SAME, demand3.OWN_RANGE, demand3.PLAIN_RANGE, demand3.NEVER_EMPTY}
         schedules = schedules_read("clauses", 1500)
         seen = set()
-        for name in ("an input's own coefficient one smaller", "no dropped part"):
+        for name in (
+            "an input's own coefficient one smaller", "no dropped part", "a product's high end left out",
+        ):
             with spoilt.spoilt(name):
                 seen |= set(violated_clauses(schedules))
-        self.assertEqual(seen - {demand3.ROOT}, clauses | {demand3.SAME})
+        self.assertEqual(seen - {demand3.ROOT}, clauses)
 
     def test_a_shared_symbol_narrows_ranges_and_confuses_rows(self):
         schedules = schedules_read("shared", 1000)
@@ -1063,7 +1318,7 @@ class Generators(unittest.TestCase):
         """A program with any of these faults would not get through compare.py."""
         sheets = [generate.sheet_bytes("01", index) for index in range(6000)]
         self.assert_told(listing.listing, sheets, spoilt.UNSOUND | spoilt.OTHER_NUMBERS)
-        self.assert_told(listing.listing, sheets, spoilt.UNSOUND_RANGES | spoilt.OTHER_RANGES)
+        self.assert_told(listing.listing, sheets, spoilt.FAULTS_OF_RANGES)
         self.assert_told(lambda data: sheet.read(data)[:2], sheets, spoilt.OTHER_SHEETS)
 
     def test_the_cases_tell_every_fault_of_reading(self):
@@ -1074,7 +1329,7 @@ class Generators(unittest.TestCase):
         for name in names:
             with self.subTest(name), spoilt.spoilt(name):
                 pairs = zip(sheets, expected)
-                self.assertTrue(any(answer(data) != right for data, right in pairs))
+                self.assertTrue(any(answer_of(answer, data) != right for data, right in pairs))
 
 
 class LibraryCalls(unittest.TestCase):
@@ -1122,7 +1377,7 @@ class LibraryCalls(unittest.TestCase):
         others = [call for call in every if call[0] not in (library_calls.LIST, *of_formula)]
         self.assert_told(others, spoilt.OTHER_CALLS | spoilt.OF_PRODUCTS | spoilt.OF_ROOTS)
         for calls in (others, listings):
-            self.assert_told(calls, spoilt.UNSOUND_RANGES | spoilt.OTHER_RANGES | spoilt.BY_FORM)
+            self.assert_told(calls, spoilt.FAULTS_OF_RANGES)
         self.assert_told(listings, spoilt.OTHER_LISTINGS)
         self.assert_told(formulas, spoilt.OTHER_FORMULAS)
 
@@ -1130,7 +1385,7 @@ class LibraryCalls(unittest.TestCase):
         expected = library_calls.expected(calls)
         for name in names:
             with self.subTest(name), spoilt.spoilt(name):
-                self.assertFalse(library_calls.expected(calls) == expected)
+                self.assertFalse(answer_of(library_calls.expected, calls) == expected)
 
     def test_the_samples_of_formulas_are_among_the_calls(self):
         block, made = None, set()

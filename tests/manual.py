@@ -29,6 +29,7 @@ import drift
 import evaluation
 import formula
 import listing
+import overlap
 import rows
 import sheet
 import sheet_cases
@@ -267,6 +268,17 @@ def listed(data: bytes) -> list[list[str]]:
     return [line.split(" ") for line in text.splitlines()[1:]]
 
 
+def worked_row(data: bytes, row: int) -> evaluation.WorkedRow:
+    """A row of a sheet, as the checker works it."""
+    return evaluation.work(sheet.read(data).schedule).rows[row - 1]
+
+
+def shown_ends(shown: str) -> tuple[int, int]:
+    """The ends of a range that is shown as `-1 to 1`."""
+    low, high = shown.split(" to ")
+    return int(low), int(high)
+
+
 def lent_numbers(data: bytes, row: int) -> tuple[list[int], list[int]]:
     """What the checker's evaluation leaves for a row of a sheet in the first and in the second table."""
     table, ranges = [0] * listing.TABLE_LENGTH, [0] * listing.RANGES_LENGTH
@@ -282,11 +294,12 @@ def check_example(name, squares, ends, steps, shown, *numbers) -> None:
         expect(f"{MANUAL}: {name}, program", [list(refused.groups())], listed(data))
         expect(f"{MANUAL}: {name}, checker", listing.refusal_text(*map(int, refused.groups())), listing.listing(data))
         return
-    centre, first, pair, own, low, high = map(int, numbers)
-    expect(f"{MANUAL}: {name}, program", [shown, str(low), str(high), str(own)], listed(data)[int(shown) - 1][:4])
+    *formed, own_range, low, high = numbers
+    expect(f"{MANUAL}: {name}, program", [shown, low, high, formed[-1]], listed(data)[int(shown) - 1][:4])
     row, answered = lent_numbers(data, int(shown))
     worked = [row[0], row[1], row[rows.PAIR_PLACE[1, 1]], row[int(shown)], *answered]
-    expect(f"{MANUAL}: {name}, checker", [centre, first, pair, own, low, high], worked)
+    expect(f"{MANUAL}: {name}, checker", [int(number) for number in (*formed, low, high)], worked)
+    expect(f"{MANUAL}: {name}, own range", shown_ends(own_range), worked_row(data, int(shown)).own_range)
 
 
 def check_lent(row, centre, first, second, places, low, high) -> None:
@@ -357,6 +370,48 @@ def check_drift(sheets_of, *shown) -> None:
     expect(f"{MANUAL}: drift of {sheets_of}", list(shown), drift.figures(drift.KINDS[sheets_of]))
 
 
+def check_overlap(kind, *shown) -> None:
+    expect(f"{MANUAL}: overlaps of {kind}", list(shown), overlap.figures(kind))
+
+
+def check_ranges(name, row, *shown) -> None:
+    """Own, plain and answered range of a row of a sheet in examples/."""
+    worked = worked_row((ROOT / "examples" / f"{name.strip('`')}.sheet").read_bytes(), int(row))
+    expect(f"{MANUAL}: ranges of {name}, row {row}", [*map(shown_ends, shown)], [worked.own_range, worked.plain_range, worked.answered_range])
+
+
+# The ranges of xy/z that are ours: a sheet of examples/, and which range of its last row.
+QUOTIENTS = {
+    "ours, own range, squares 0": ("quotient", "own_range"),
+    "ours, own range, squares 3": ("quotient_squares", "own_range"),
+    "ours, answered range, squares 0": ("quotient", "answered_range"),
+    "ours, answered range, squares 3": ("quotient_squares", "answered_range"),
+}
+TRUE_QUOTIENT = (Fraction(1, 2), Fraction(8, 5))
+# How much wider than the exact values the answered range may be, in units.
+ALLOWED = 10
+
+
+def check_quotient(which, *shown) -> None:
+    """A range of xy/z, low, high and width, as numbers and in units: ours as the checker works it, another one as it was published."""
+    decimals, units = shown[:3], shown[3:]
+    if which == "the exact values":
+        low, high = TRUE_QUOTIENT
+        expect(f"examples/README.md: {which}", [*map(Fraction, decimals)], [low, high, high - low])
+    if which not in QUOTIENTS:
+        low, high, width = map(float, decimals)
+        expect(f"examples/README.md: {which}, width", round(width, 6), round(high - low, 6))
+        expect(f"examples/README.md: {which} in units", list(units), [f"{rows.UNIT * number:.1f}" for number in (low, high, width)])
+        return
+    name, kind = QUOTIENTS[which]
+    low, high = getattr(worked_row((ROOT / "examples" / f"{name}.sheet").read_bytes(), 6), kind)
+    expect(f"examples/README.md: {which} in units", [*map(int, units)], [low, high, high - low])
+    expect(f"examples/README.md: {which}", list(decimals), [f"{end / rows.UNIT:.7f}" for end in (low, high, high - low)])
+    if kind == "answered_range":
+        exact = rows.UNIT * (TRUE_QUOTIENT[1] - TRUE_QUOTIENT[0])
+        expect(f"examples/README.md: {which}, at most {ALLOWED} units wider than the exact values", high - low - exact <= ALLOWED, True)
+
+
 def check_example_sheet(name, prints, why) -> None:
     """A sheet of examples/README.md prints its listing, or its refusal."""
     path = ROOT / "examples" / f"{name.strip('`')}.sheet"
@@ -381,13 +436,27 @@ def check_formula_row(row, part, step) -> None:
 
 
 TABLES = [
-    (MANUAL, "| example | squares | ends | steps | shown | centre | symbol 1 | pair (1,1) | own | low | high |", check_example, 27),
+    (MANUAL, "| example | squares | ends | steps | shown | centre | symbol 1 | pair (1,1) | own | own range | low | high |", check_example, 27),
     (MANUAL, "| row | its centre | its symbol 1 | its symbol 2 | numbers of the second table | low | high |", check_lent, 3),
     (MANUAL, "| field | from | to |", check_field, len(FIELDS)),
     (MANUAL, "| pairs | numbers |", check_pairs, 6),
     (MANUAL, "| what | how much |", check_size, len(SIZES)),
     (MANUAL, "| row | is the part | step |", check_formula_row, 5),
-    (MANUAL, "| sheets of multiplies | sheets | mean error, down | mean error, nearest | mean width, down | mean width, nearest |", check_drift, 3),
+    (
+        MANUAL,
+        "| sheets of multiplies | sheets | mean error, down | mean error, nearest | mean own width, down | mean own width, nearest "
+        "| mean answered width, down | mean answered width, nearest |",
+        check_drift,
+        len(drift.KINDS),
+    ),
+    (MANUAL, "| sheet | row | own range | plain range | answered range |", check_ranges, 7),
+    (
+        MANUAL,
+        "| rows | how many | narrower than own | left | narrower than plain | left | narrower than both | narrower than intervals alone | left |",
+        check_overlap,
+        len(overlap.KINDS),
+    ),
+    ("examples/README.md", "| range of xy/z | low | high | width | low in units | high in units | width in units |", check_quotient, 4 + len(QUOTIENTS)),
     ("examples/README.md", "| sheet | prints | why |", check_example_sheet, len([*ROOT.glob("examples/*.sheet")])),
     ("examples/README.md", "| formula | prints | why |", check_example_formula, len([*ROOT.glob("examples/*.formula")])),
 ]

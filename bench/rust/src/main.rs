@@ -1,7 +1,8 @@
 //! The specification written plainly in Rust, to be timed beside `bench_evaluate`: standard input has a line with a count N and then a
-//! sheet; the sheet is read, evaluated N times into one table of rows and one of ranges, and one line is printed: N, and the last row's
-//! low and high.
+//! sheet; the sheet is read, evaluated N times into one table of rows and one of answered ranges, and one line is printed: N, and the last
+//! row's low and high.
 mod evaluation;
+mod intervals;
 mod rows;
 mod sheet;
 

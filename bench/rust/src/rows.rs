@@ -2,7 +2,7 @@
 const SYMBOLS: usize = 30;
 const PAIRS: usize = 21;
 const SPAN_LIMIT: u64 = 1 << 30;
-const N: i64 = 4096 * 4096;
+pub const N: i64 = 4096 * 4096;
 
 const ORDER: [(usize, usize); PAIRS] = [
     (0, 0), (0, 1), (0, 2), (0, 3), (0, 4), (0, 5),
@@ -29,14 +29,14 @@ pub struct Range {
     pub high: i64,
 }
 
-/// A row and its range, or the number of a refusal.
+/// A row and its own range, or the number of a refusal.
 pub type Answer = Result<(Row, Range), u64>;
 
 fn absolutes(numbers: &[i64]) -> u64 {
     numbers.iter().map(|v| v.unsigned_abs()).sum()
 }
 
-fn floor_quotient(a: i64, d: i64) -> i64 {
+pub fn floor_quotient(a: i64, d: i64) -> i64 {
     let q = a / d;
     if a % d != 0 && (a % d < 0) != (d < 0) { q - 1 } else { q }
 }
@@ -49,13 +49,13 @@ impl Row {
         absolutes(&self.linear) + absolutes(&self.pair)
     }
 
-    /// The row and its range, or 6. No operation makes a number so large that a sum here could wrap.
+    /// The row and its own range, or 6. No operation makes a number so large that a sum here could wrap.
     fn checked(self) -> Answer {
         let radius = self.radius();
         if self.centre.unsigned_abs() + radius <= SPAN_LIMIT { Ok((self, self.range(radius as i64))) } else { Err(6) }
     }
 
-    /// The range of a row of this radius. A square is never negative, so a pair (i,i) reaches to one side only.
+    /// The range of the form of a row of this radius. A square is never negative, so a pair (i,i) reaches to one side only.
     fn range(&self, radius: i64) -> Range {
         let mut range = Range { low: self.centre - radius, high: self.centre + radius };
         for p in SQUARES.map(|k| self.pair[k]) {
@@ -85,7 +85,7 @@ pub fn constant(value: i64) -> Answer {
     Row { centre: value, ..Row::ZERO }.checked()
 }
 
-/// The range of an input is its ends.
+/// The own range of an input is its ends.
 pub fn input(own: usize, low: i64, high: i64) -> Answer {
     let mut row = Row { centre: (low + high) >> 1, ..Row::ZERO };
     row.linear[own] = high - row.centre;
@@ -188,7 +188,7 @@ fn error_bound(x: &Row, z: &Row, squares: usize) -> u64 {
     bound
 }
 
-/// The reciprocal of a row of this range.
+/// The reciprocal of a row of this own range.
 pub fn reciprocal(x: &Row, range: Range, squares: usize, own: usize) -> Answer {
     let distance = range.distance()?;
     let (mut row, _) = candidate(x, squares).checked()?;
@@ -197,7 +197,7 @@ pub fn reciprocal(x: &Row, range: Range, squares: usize, own: usize) -> Answer {
 }
 
 /// The whole-number root of 4096 times a value that is not negative, rounded down.
-fn unit_root(value: i64) -> u64 {
+pub fn unit_root(value: i64) -> u64 {
     (4096 * value.unsigned_abs()).isqrt()
 }
 
@@ -221,7 +221,7 @@ fn square_bound(x: &Row, z: &Row, squares: usize) -> u64 {
     bound
 }
 
-/// The root of a row of this range, or 12 where the range or the candidate's is too low.
+/// The root of a row of this own range, or 12 where the range or the candidate's is too low.
 pub fn root(x: &Row, range: Range, squares: usize, own: usize) -> Answer {
     if range.low < 1 {
         return Err(12);

@@ -34,7 +34,7 @@ ghost use Rattle.affine.specs.Root.{
 ghost use Rattle.affine.specs.Root as Spec;
 
 // The root of 4096 times a number of units above 0.
-fn unit_root(v: i64) -> u64
+pub fn unit_root(v: i64) -> u64
     requires { ⌜ (pos 1 ≤ℤ v) × (natAbs v ≤ spanLimit) ⌝ }
     ensures { λ r. ⌜ r ≡ unitRoot v ⌝ }
 {

@@ -3,23 +3,30 @@ use mathlib.Core.Path.{_≡_, refl, sym, ap, _∙_, subst}
 use mathlib.Core.Logic.{_⊎_, inl, inr}
 use mathlib.Core.List.{List}
 use Prim.Native.Nat.{ℕ, _*_, _≤_, _<_}
+use native.Mathlib.Nat.{le-refl}
 use native.Mathlib.Omega.{arith}
 use native.Mathlib.Decide.{ℕ-discrete}
 use lib.IntN.{ℤ}
 use lib.ListN.{length}
+use lib.Signed.{_≤ℤ_}
+use Rattle.affine.specs.declared.Range.{Range}
 use Rattle.affine.specs.Limits.{symbols, spanLimit}
+use Rattle.interval.specs.Interval.{RangeWithin}
 use Rattle.sheet.specs.declared.Schedule.{Schedule}
 use Rattle.sheet.specs.Writing.{testOf}
 use Rattle.sheet.proofs.Passed.{Passed, passed}
 use Rattle.evaluation.specs.Table.{rowWidth, rangeWidth, tableAfter, rangesAfter, rangeAt, RowsWithin, RangesOrdered}
-use Rattle.evaluation.specs.Work.{rowCount, answeredRanges, Worked, evaluated, worked}
+use Rattle.evaluation.specs.Work.{rowCount, Worked, evaluated}
+use Rattle.evaluation.specs.Ranges.{answeredRanges}
+use Rattle.evaluation.proofs.Sequence.{getD-grown}
 use Rattle.evaluation.proofs.EvaluationEnds.{ends-tested, ends-short, ends-short-ranges, ends-worked}
 use Rattle.evaluation.proofs.Induction.{lt-or-ge}
-use Rattle.evaluation.proofs.OwnRanges.{RangeWithin, own-within}
+use Rattle.evaluation.proofs.OwnRanges.{noRange}
+use Rattle.evaluation.proofs.AnsweredRanges.{nextTold, toldUpTo, toldAt, answered-grown, length-told, told-within}
+use Rattle.evaluation.proofs.NeverEmpty.{told-ordered}
 use Rattle.evaluation.proofs.RowLines.{rows-few}
-use Rattle.evaluation.proofs.SoundRows.{row-sound}
-use Rattle.evaluation.proofs.WorkLaws.{nextRow, rowsUpTo, Went, went}
-use Rattle.evaluation.proofs.WorkedTable.{WorkedInto, rows-within, ranges-ordered, range-held}
+use Rattle.evaluation.proofs.WorkLaws.{rowsUpTo, Went, went, Begun}
+use Rattle.evaluation.proofs.WorkedTable.{RowsInto, rows-within, length-rangesAfter, rangeAt-rangesAfter}
 
 -- an accepted evaluation passed 3, 4 and 5, had room, and worked all its rows
 pub record AcceptedEvaluation (c : Schedule) (table ranges : List ℤ) : Type 0 where
@@ -59,25 +66,39 @@ module _ (c : Schedule) (table ranges : List ℤ) (e : evaluated c table ranges 
   abbrev leftRanges : List ℤ
   leftRanges = rangesAfter (answeredRanges c (evaluated c table ranges .rows)) ranges
 
-  -- they hold the rows and their ranges
-  pub worked-left : WorkedInto c (rowCount c) table left ranges leftRanges
-  worked-left =
+  pub begun-left : Begun c (rowCount c)
+  begun-left = record { few = le-refl (rowCount c); goes = accepted-evaluation .goes }
+
+  -- the first holds the rows
+  pub rows-left : RowsInto c (rowCount c) table left
+  rows-left =
       let a = accepted-evaluation in
-      let q : evaluated c table ranges .rows ≡ worked c (rowCount c) .rows = a .rows ∙ sym (a .goes .rows) in
-      record {
-        none-refused = ap (λ r. r .number) (a .goes .refusal);
-        left = ap (λ rows. tableAfter rows table) q;
-        told = ap (λ rows. rangesAfter (answeredRanges c rows) ranges) q;
-      }
+      record { none-refused = ap (λ r. r .number) (a .goes .refusal); left = ap (λ rows. tableAfter rows table) (a .rows ∙ sym (a .goes .rows)) }
 
   pub rows-left-within : RowsWithin left (rowCount c)
-  rows-left-within = rows-within worked-left (accepted-evaluation .room)
+  rows-left-within = rows-within rows-left (accepted-evaluation .room)
+
+  -- the second their answered ranges
+  ranges-told : leftRanges ≡ rangesAfter (toldUpTo c (rowCount c)) ranges
+  ranges-told = ap (λ l. rangesAfter l ranges) (ap (answeredRanges c) (accepted-evaluation .rows) ∙ answered-grown c (rowCount c))
+
+  pub range-left : (i : ℕ) → i < rowCount c → rangeAt leftRanges i ≡ toldAt c i
+  range-left i h =
+      ap (λ t. rangeAt t i) ranges-told ∙ rangeAt-rangesAfter (toldUpTo c (rowCount c)) ranges i (omega (arith, length-told c (rowCount c)))
+      ∙ getD-grown (nextTold c) (rowCount c) noRange i h
 
   -- no low is above its high
+  told-left-ordered : (i : ℕ) → i < rowCount c → toldAt c i .low ≤ℤ toldAt c i .high
+  told-left-ordered = told-ordered c (accepted-evaluation .pass) begun-left
+
   pub ranges-left-ordered : RangesOrdered leftRanges (rowCount c)
-  ranges-left-ordered = ranges-ordered worked-left (accepted-evaluation .pass) (accepted-evaluation .room-ranges)
+  ranges-left-ordered =
+      let long = length-told c (rowCount c) in
+      record {
+        room = omega (arith, ap length ranges-told, length-rangesAfter (toldUpTo c (rowCount c)) ranges (omega (arith, long, accepted-evaluation .room-ranges)), accepted-evaluation .room-ranges);
+        ordered = λ i h. subst (λ (r : Range). r .low ≤ℤ r .high) (sym (range-left i h)) (told-left-ordered i h);
+      }
 
   -- no end is beyond the span limit
   pub ranges-left-within : (i : ℕ) → i < rowCount c → RangeWithin spanLimit (rangeAt leftRanges i)
-  ranges-left-within i h =
-      subst (RangeWithin spanLimit) (sym (range-held worked-left i h)) (own-within c (accepted-evaluation .pass) i (nextRow c (rowsUpTo c i)) (row-sound c (rowsUpTo c i)))
+  ranges-left-within i h = subst (RangeWithin spanLimit) (sym (range-left i h)) (told-within c (accepted-evaluation .pass) i (told-left-ordered i h))

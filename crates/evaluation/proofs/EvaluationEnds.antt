@@ -10,15 +10,20 @@ use Rattle.affine.specs.Row.{numbers}
 use Rattle.sheet.specs.declared.Schedule.{Schedule}
 use Rattle.sheet.specs.Writing.{testOf}
 use Rattle.evaluation.specs.Table.{rowWidth, rangeWidth, rangeNumbers, tableAfter, rangesAfter}
-use Rattle.evaluation.specs.Work.{rowCount, ownRanges, answeredRanges, stopped, worked, tableTooShort, evaluated}
+use Rattle.evaluation.specs.Work.{rowCount, stopped, worked, tableTooShort, evaluated}
+use Rattle.evaluation.specs.Ranges.{ownRanges, answered, answeredRanges}
 use Rattle.evaluation.proofs.TableLaws.{nothing-after}
 
 -- no row leaves both tables as they were
 pub nothing-put : (table : List ℤ) → tableAfter [] table ≡ table
 nothing-put table = nothing-after rowWidth numbers table
 
-pub nothing-told : (c : Schedule) (ranges : List ℤ) → rangesAfter (answeredRanges c []) ranges ≡ ranges
+pub nothing-own : (c : Schedule) (ranges : List ℤ) → rangesAfter (ownRanges c []) ranges ≡ ranges
 unfolding ownRanges tabulate
+nothing-own c ranges = nothing-after rangeWidth rangeNumbers ranges
+
+pub nothing-told : (c : Schedule) (ranges : List ℤ) → rangesAfter (answeredRanges c []) ranges ≡ ranges
+unfolding ownRanges tabulate answered
 nothing-told c ranges = nothing-after rangeWidth rangeNumbers ranges
 
 module _ (c : Schedule) (table ranges : List ℤ) where

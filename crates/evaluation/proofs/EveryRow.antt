@@ -19,7 +19,8 @@ use Rattle.affine.proofs.Support.{FreeOf, constant-free, input-free, zip-free, 
 use Rattle.affine.proofs.WellFormed.{constant-uses, input-uses, zip-uses, product-uses, reciprocal-uses, root-uses}
 use Rattle.sheet.specs.declared.Schedule.{Schedule}
 use Rattle.sheet.specs.Lines.{natural, endsAt, stepAt}
-use Rattle.evaluation.specs.Work.{rowOf, ownRanges, rowAnswer}
+use Rattle.evaluation.specs.Ranges.{rowOf, operandRanges}
+use Rattle.evaluation.specs.Work.{rowAnswer}
 use Rattle.evaluation.proofs.Sequence.{complete, length-grown, getD-grown, getD-beyond}
 use Rattle.evaluation.proofs.Induction.{lt-or-ge}
 use Rattle.evaluation.proofs.WorkLaws.{nextRow, rowsUpTo}
@@ -41,7 +42,7 @@ module _ (c : Schedule) (K : ℕ → Row → Type 0) (kept : (n : ℕ) → Kept 
       (pick-elim (λ (a : Answer). K (length rows) (a .row)) (ltb (length rows) (natural (c .inputs))) _ _
       (λ e. checked-has (length rows) (inputRow (length rows) low high) (endsRange low high) (input (length rows)))
       (λ e. of-step (λ (a : Answer). K (length rows) (a .row)) (K (length rows)) (K (length rows)) (λ r h. checked-has (length rows) r (formRange r) h)
-      (λ s. kept (length rows) .constant (pos 0)) (natural (c .squares)) rows (kept (length rows)) (λ k. here (rowOf rows k) (operand k)) (ownRanges c rows)
+      (λ s. kept (length rows) .constant (pos 0)) (natural (c .squares)) rows (kept (length rows)) (λ k. here (rowOf rows k) (operand k)) (operandRanges c rows)
       (stepAt c (length rows - natural (c .inputs)))))
 
   pub every-row : (n : ℕ) → K n (nextRow c (rowsUpTo c n))

@@ -18,6 +18,7 @@ use Rattle.affine.specs.Product.{linearTotals, pairTotals, squaredRadius, dropp
 use Rattle.integer.specs.Root.{rootIn, root}
 use Rattle.affine.specs.Reciprocal.{candidateLinear, candidatePair, errorBound, reciprocalOwn, reciprocalRow}
 use Rattle.affine.specs.Root.{unitRoot, linearMisses, pairMisses, squareError, rootOwn, rootRow}
+use Rattle.interval.specs.Interval.{leastProduct, greatestProduct}
 use Rattle.sheet.specs.declared.Schedule.{Schedule}
 use Rattle.sheet.specs.declared.Step.{Step}
 use Rattle.sheet.specs.declared.End.{End}
@@ -26,7 +27,8 @@ use Rattle.sheet.specs.Tests.{countsPass, endsPass, stepPasses, fault}
 use Rattle.sheet.specs.Limits.{maxInputs, maxSteps}
 use Rattle.sheet.specs.Writing.{faultAt, testLines, testOf}
 use Rattle.evaluation.specs.Table.{rowWidth, rangeWidth}
-use Rattle.evaluation.specs.Work.{Worked, rowCount, rowOf, ownRanges, answeredRanges, binaryAnswer, unaryAnswer, stepAnswer, rowAnswer, withAnswer, worked, evaluated}
+use Rattle.evaluation.specs.Work.{Worked, rowCount, binaryAnswer, unaryAnswer, stepAnswer, rowAnswer, withAnswer, worked, evaluated}
+use Rattle.evaluation.specs.Ranges.{rowOf, ownRanges, plainStep, plainRange, answered, answeredRanges}
 use Rattle.evaluation.specs.Values.{ownOf}
 
 abbrev minus : ℕ → ℤ
@@ -50,17 +52,17 @@ schedule squares e steps =
       step = steps ++ replicate (maxSteps - length steps) zeroStep;
     }
 
--- ---- what is shown of a case: number and place, and of the row with index i its centre, its coefficients of symbol 1, of pair (1,1) and its own,
--- and the answered low and high
+-- ---- what is shown of a case: number and place, and of the row with index i its centre, its coefficients of symbol 1, of pair (1,1) and its own, its own
+-- range and the answered one
 evaluation : Schedule → Worked
 evaluation c = evaluated c (replicate (rowWidth * rowCount c) (pos 0)) (replicate (rangeWidth * rowCount c) (pos 0))
 
-rangeShown : Range → List ℤ
-rangeShown r = r .low ∷ r .high ∷ []
+rangeShown : List Range → ℕ → List ℤ
+rangeShown ranges i = let r = getD ranges i (endsRange (pos 0) (pos 0)) in r .low ∷ r .high ∷ []
 
 rowShown : Schedule → List Row → ℕ → List ℤ
 rowShown c rows i =
-    rowOf rows i .centre ∷ at (rowOf rows i .linear) 0 ∷ at (rowOf rows i .pair) 0 ∷ ownOf rows i ∷ rangeShown (getD (answeredRanges c rows) i (endsRange (pos 0) (pos 0)))
+    rowOf rows i .centre ∷ at (rowOf rows i .linear) 0 ∷ at (rowOf rows i .pair) 0 ∷ ownOf rows i ∷ rangeShown (ownRanges c rows) i ++ rangeShown (answeredRanges c rows) i
 
 shown : Schedule → ℕ → List ℤ
 shown c i =
@@ -110,35 +112,35 @@ wide = ended (pos 4096) (pos 8192)
 
 cases : List Case
 cases =
-    case (alone (ended (pos 0) (pos 1))) 0 (pos 0 ∷ pos 0 ∷ pos 0 ∷ pos 1 ∷ pos 0 ∷ pos 1 ∷ pos 0 ∷ pos 1 ∷ [])
-    ∷ case (alone (ended (minus 1) (pos 0))) 0 (pos 0 ∷ pos 0 ∷ minus 1 ∷ pos 1 ∷ pos 0 ∷ pos 1 ∷ minus 1 ∷ pos 0 ∷ [])
-    ∷ case (productOf (pos 1) (pos 1)) 3 (pos 0 ∷ pos 0 ∷ pos 0 ∷ pos 0 ∷ pos 0 ∷ pos 1 ∷ minus 1 ∷ pos 1 ∷ [])
-    ∷ case (productOf (minus 1) (pos 1)) 3 (pos 0 ∷ pos 0 ∷ pos 0 ∷ pos 0 ∷ pos 0 ∷ pos 1 ∷ minus 1 ∷ pos 1 ∷ [])
-    ∷ case (reciprocalOf (pos 8192)) 2 (pos 0 ∷ pos 0 ∷ pos 2048 ∷ pos 0 ∷ pos 0 ∷ pos 0 ∷ pos 2048 ∷ pos 2048 ∷ [])
-    ∷ case (reciprocalOf (pos 12288)) 2 (pos 0 ∷ pos 0 ∷ pos 1365 ∷ pos 0 ∷ pos 0 ∷ pos 1 ∷ pos 1364 ∷ pos 1366 ∷ [])
-    ∷ case (reciprocalOf (minus 12288)) 2 (pos 0 ∷ pos 0 ∷ minus 1366 ∷ pos 0 ∷ pos 0 ∷ pos 1 ∷ minus 1367 ∷ minus 1365 ∷ [])
-    ∷ case (square 1 wide) 1 (pos 0 ∷ pos 0 ∷ pos 9216 ∷ pos 6144 ∷ pos 1024 ∷ pos 0 ∷ pos 3072 ∷ pos 16384 ∷ [])
-    ∷ case (square 0 wide) 1 (pos 0 ∷ pos 0 ∷ pos 9216 ∷ pos 6144 ∷ pos 0 ∷ pos 1024 ∷ pos 2048 ∷ pos 16384 ∷ [])
-    ∷ case (inverse 1 wide) 1 (pos 0 ∷ pos 0 ∷ pos 2730 ∷ minus 911 ∷ pos 303 ∷ pos 155 ∷ pos 1664 ∷ pos 4099 ∷ [])
-    ∷ case (inverse 0 wide) 1 (pos 0 ∷ pos 0 ∷ pos 2730 ∷ minus 911 ∷ pos 0 ∷ pos 458 ∷ pos 1361 ∷ pos 4099 ∷ [])
-    ∷ case (inverse 0 (ended (pos 1) (pos 2))) 1 (pos 0 ∷ pos 0 ∷ pos 16777216 ∷ minus 16777216 ∷ pos 0 ∷ pos 16777216 ∷ minus 16777216 ∷ pos 50331648 ∷ [])
-    ∷ case (inverse 0 (ended (pos 1) (pos 3))) 1 (pos 0 ∷ pos 0 ∷ pos 8388608 ∷ minus 4194304 ∷ pos 0 ∷ pos 4194304 ∷ pos 0 ∷ pos 16777216 ∷ [])
-    ∷ case (productOf (pos 268435456) (pos 16384)) 3 (pos 0 ∷ pos 0 ∷ pos 1073741824 ∷ pos 0 ∷ pos 0 ∷ pos 0 ∷ pos 1073741824 ∷ pos 1073741824 ∷ [])
+    case (alone (ended (pos 0) (pos 1))) 0 (pos 0 ∷ pos 0 ∷ pos 0 ∷ pos 1 ∷ pos 0 ∷ pos 1 ∷ pos 0 ∷ pos 1 ∷ pos 0 ∷ pos 1 ∷ [])
+    ∷ case (alone (ended (minus 1) (pos 0))) 0 (pos 0 ∷ pos 0 ∷ minus 1 ∷ pos 1 ∷ pos 0 ∷ pos 1 ∷ minus 1 ∷ pos 0 ∷ minus 1 ∷ pos 0 ∷ [])
+    ∷ case (productOf (pos 1) (pos 1)) 3 (pos 0 ∷ pos 0 ∷ pos 0 ∷ pos 0 ∷ pos 0 ∷ pos 1 ∷ minus 1 ∷ pos 1 ∷ pos 0 ∷ pos 1 ∷ [])
+    ∷ case (productOf (minus 1) (pos 1)) 3 (pos 0 ∷ pos 0 ∷ pos 0 ∷ pos 0 ∷ pos 0 ∷ pos 1 ∷ minus 1 ∷ pos 1 ∷ minus 1 ∷ pos 0 ∷ [])
+    ∷ case (reciprocalOf (pos 8192)) 2 (pos 0 ∷ pos 0 ∷ pos 2048 ∷ pos 0 ∷ pos 0 ∷ pos 0 ∷ pos 2048 ∷ pos 2048 ∷ pos 2048 ∷ pos 2048 ∷ [])
+    ∷ case (reciprocalOf (pos 12288)) 2 (pos 0 ∷ pos 0 ∷ pos 1365 ∷ pos 0 ∷ pos 0 ∷ pos 1 ∷ pos 1364 ∷ pos 1366 ∷ pos 1365 ∷ pos 1366 ∷ [])
+    ∷ case (reciprocalOf (minus 12288)) 2 (pos 0 ∷ pos 0 ∷ minus 1366 ∷ pos 0 ∷ pos 0 ∷ pos 1 ∷ minus 1367 ∷ minus 1365 ∷ minus 1366 ∷ minus 1365 ∷ [])
+    ∷ case (square 1 wide) 1 (pos 0 ∷ pos 0 ∷ pos 9216 ∷ pos 6144 ∷ pos 1024 ∷ pos 0 ∷ pos 3072 ∷ pos 16384 ∷ pos 4096 ∷ pos 16384 ∷ [])
+    ∷ case (square 0 wide) 1 (pos 0 ∷ pos 0 ∷ pos 9216 ∷ pos 6144 ∷ pos 0 ∷ pos 1024 ∷ pos 2048 ∷ pos 16384 ∷ pos 4096 ∷ pos 16384 ∷ [])
+    ∷ case (inverse 1 wide) 1 (pos 0 ∷ pos 0 ∷ pos 2730 ∷ minus 911 ∷ pos 303 ∷ pos 155 ∷ pos 1664 ∷ pos 4099 ∷ pos 2048 ∷ pos 4096 ∷ [])
+    ∷ case (inverse 0 wide) 1 (pos 0 ∷ pos 0 ∷ pos 2730 ∷ minus 911 ∷ pos 0 ∷ pos 458 ∷ pos 1361 ∷ pos 4099 ∷ pos 2048 ∷ pos 4096 ∷ [])
+    ∷ case (inverse 0 (ended (pos 1) (pos 2))) 1 (pos 0 ∷ pos 0 ∷ pos 16777216 ∷ minus 16777216 ∷ pos 0 ∷ pos 16777216 ∷ minus 16777216 ∷ pos 50331648 ∷ pos 8388608 ∷ pos 16777216 ∷ [])
+    ∷ case (inverse 0 (ended (pos 1) (pos 3))) 1 (pos 0 ∷ pos 0 ∷ pos 8388608 ∷ minus 4194304 ∷ pos 0 ∷ pos 4194304 ∷ pos 0 ∷ pos 16777216 ∷ pos 5592405 ∷ pos 16777216 ∷ [])
+    ∷ case (productOf (pos 268435456) (pos 16384)) 3 (pos 0 ∷ pos 0 ∷ pos 1073741824 ∷ pos 0 ∷ pos 0 ∷ pos 0 ∷ pos 1073741824 ∷ pos 1073741824 ∷ pos 1073741824 ∷ pos 1073741824 ∷ [])
     ∷ case (productOf (pos 268435456) (pos 16385)) 3 (pos 6 ∷ pos 4 ∷ [])
-    ∷ case (rootOf (pos 4096)) 2 (pos 0 ∷ pos 0 ∷ pos 4096 ∷ pos 0 ∷ pos 0 ∷ pos 1 ∷ pos 4095 ∷ pos 4097 ∷ [])
-    ∷ case (rootOf (pos 2)) 2 (pos 0 ∷ pos 0 ∷ pos 90 ∷ pos 0 ∷ pos 0 ∷ pos 3 ∷ pos 87 ∷ pos 93 ∷ [])
-    ∷ case (rooted 1 wide) 1 (pos 0 ∷ pos 0 ∷ pos 5016 ∷ pos 836 ∷ pos 0 ∷ pos 174 ∷ pos 4006 ∷ pos 6026 ∷ [])
-    ∷ case (rooted 0 wide) 1 (pos 0 ∷ pos 0 ∷ pos 5016 ∷ pos 836 ∷ pos 0 ∷ pos 174 ∷ pos 4006 ∷ pos 6026 ∷ [])
+    ∷ case (rootOf (pos 4096)) 2 (pos 0 ∷ pos 0 ∷ pos 4096 ∷ pos 0 ∷ pos 0 ∷ pos 1 ∷ pos 4095 ∷ pos 4097 ∷ pos 4096 ∷ pos 4096 ∷ [])
+    ∷ case (rootOf (pos 2)) 2 (pos 0 ∷ pos 0 ∷ pos 90 ∷ pos 0 ∷ pos 0 ∷ pos 3 ∷ pos 87 ∷ pos 93 ∷ pos 90 ∷ pos 90 ∷ [])
+    ∷ case (rooted 1 wide) 1 (pos 0 ∷ pos 0 ∷ pos 5016 ∷ pos 836 ∷ pos 0 ∷ pos 174 ∷ pos 4006 ∷ pos 6026 ∷ pos 4096 ∷ pos 5792 ∷ [])
+    ∷ case (rooted 0 wide) 1 (pos 0 ∷ pos 0 ∷ pos 5016 ∷ pos 836 ∷ pos 0 ∷ pos 174 ∷ pos 4006 ∷ pos 6026 ∷ pos 4096 ∷ pos 5792 ∷ [])
     ∷ case (rooted 0 (ended (pos 0) (pos 5))) 1 (pos 12 ∷ pos 2 ∷ [])
-    ∷ case (rooted 0 (ended (pos 1) (pos 3))) 1 (pos 0 ∷ pos 0 ∷ pos 90 ∷ pos 22 ∷ pos 0 ∷ pos 13 ∷ pos 55 ∷ pos 125 ∷ [])
-    ∷ case (rootOfSquare wide) 2 (pos 0 ∷ pos 0 ∷ pos 6144 ∷ pos 2048 ∷ pos 341 ∷ pos 1609 ∷ pos 2487 ∷ pos 10142 ∷ [])
-    ∷ case (productOf (pos 2047) (pos 1)) 3 (pos 0 ∷ pos 0 ∷ pos 0 ∷ pos 0 ∷ pos 0 ∷ pos 1 ∷ minus 1 ∷ pos 1 ∷ [])
-    ∷ case (productOf (pos 2048) (pos 1)) 3 (pos 0 ∷ pos 0 ∷ pos 1 ∷ pos 0 ∷ pos 0 ∷ pos 1 ∷ pos 0 ∷ pos 2 ∷ [])
-    ∷ case (productOf (minus 2048) (pos 1)) 3 (pos 0 ∷ pos 0 ∷ pos 0 ∷ pos 0 ∷ pos 0 ∷ pos 1 ∷ minus 1 ∷ pos 1 ∷ [])
-    ∷ case (productOf (minus 2049) (pos 1)) 3 (pos 0 ∷ pos 0 ∷ minus 1 ∷ pos 0 ∷ pos 0 ∷ pos 1 ∷ minus 2 ∷ pos 0 ∷ [])
-    ∷ case (square 1 (ended (pos 0) (pos 64))) 1 (pos 0 ∷ pos 0 ∷ pos 0 ∷ pos 1 ∷ pos 0 ∷ pos 1 ∷ minus 2 ∷ pos 2 ∷ [])
+    ∷ case (rooted 0 (ended (pos 1) (pos 3))) 1 (pos 0 ∷ pos 0 ∷ pos 90 ∷ pos 22 ∷ pos 0 ∷ pos 13 ∷ pos 55 ∷ pos 125 ∷ pos 64 ∷ pos 110 ∷ [])
+    ∷ case (rootOfSquare wide) 2 (pos 0 ∷ pos 0 ∷ pos 6144 ∷ pos 2048 ∷ pos 341 ∷ pos 1609 ∷ pos 2487 ∷ pos 10142 ∷ pos 4096 ∷ pos 8192 ∷ [])
+    ∷ case (productOf (pos 2047) (pos 1)) 3 (pos 0 ∷ pos 0 ∷ pos 0 ∷ pos 0 ∷ pos 0 ∷ pos 1 ∷ minus 1 ∷ pos 1 ∷ pos 0 ∷ pos 1 ∷ [])
+    ∷ case (productOf (pos 2048) (pos 1)) 3 (pos 0 ∷ pos 0 ∷ pos 1 ∷ pos 0 ∷ pos 0 ∷ pos 1 ∷ pos 0 ∷ pos 2 ∷ pos 0 ∷ pos 1 ∷ [])
+    ∷ case (productOf (minus 2048) (pos 1)) 3 (pos 0 ∷ pos 0 ∷ pos 0 ∷ pos 0 ∷ pos 0 ∷ pos 1 ∷ minus 1 ∷ pos 1 ∷ minus 1 ∷ pos 0 ∷ [])
+    ∷ case (productOf (minus 2049) (pos 1)) 3 (pos 0 ∷ pos 0 ∷ minus 1 ∷ pos 0 ∷ pos 0 ∷ pos 1 ∷ minus 2 ∷ pos 0 ∷ minus 1 ∷ pos 0 ∷ [])
+    ∷ case (square 1 (ended (pos 0) (pos 64))) 1 (pos 0 ∷ pos 0 ∷ pos 0 ∷ pos 1 ∷ pos 0 ∷ pos 1 ∷ minus 2 ∷ pos 2 ∷ pos 0 ∷ pos 1 ∷ [])
     ∷ []
 
 examples-hold : map (λ k. shown (k .of) (k .row)) cases ≡ map (λ k. k .is) cases
-unfolding cases case still reciprocalOf rootOf productOf alone square inverse rooted rootOfSquare wide ended step schedule evaluation rangeShown rowShown shown evaluated worked withAnswer ownRanges rowAnswer stepAnswer binaryAnswer unaryAnswer testOf testLines faultAt lineOf numbers fault countsPass endsPass stepPasses floorQuotient nearestQuotient nearestRemainder low high tabulate overPairs firsts seconds pairBelow pairAbove pairsBelow pairsAbove sum span linearTotals pairTotals radius squaredRadius dropped productOwn productRow candidateLinear candidatePair errorBound reciprocalOwn reciprocalRow root rootIn unitRoot linearMisses pairMisses squareError rootOwn rootRow
+unfolding cases case still reciprocalOf rootOf productOf alone square inverse rooted rootOfSquare wide ended step schedule evaluation rangeShown rowShown shown evaluated worked withAnswer ownRanges rowAnswer stepAnswer binaryAnswer unaryAnswer plainStep plainRange answered leastProduct greatestProduct testOf testLines faultAt lineOf numbers fault countsPass endsPass stepPasses floorQuotient nearestQuotient nearestRemainder low high tabulate overPairs firsts seconds pairBelow pairAbove pairsBelow pairsAbove sum span linearTotals pairTotals radius squaredRadius dropped productOwn productRow candidateLinear candidatePair errorBound reciprocalOwn reciprocalRow root rootIn unitRoot linearMisses pairMisses squareError rootOwn rootRow
 examples-hold = refl

@@ -5,6 +5,7 @@ pub mod ExactRows
 pub mod RowLines
 pub mod SoundRows
 pub mod OwnRanges
+pub mod AnsweredRanges
 pub mod EveryRow
 pub mod Made
 pub mod RowFacts
@@ -16,11 +17,14 @@ pub mod Pasted
 pub mod FieldBits
 pub mod StepAnswers
 pub mod WorkedTable
+pub mod Narrowed
 pub mod EvaluationEnds
 pub mod AcceptedEvaluation
 pub mod RefusalRow
 pub mod FractionUnits
 pub mod RowEnclosure
+pub mod FoundRows
+pub mod NeverEmpty
 pub mod Demand3
 pub mod RootStarts
 pub mod RootMisses

@@ -7,7 +7,7 @@ use Prim.Native.Nat.{ℕ, suc, _≤_, _<_}
 use native.Mathlib.Omega.{arith}
 use borrow.Author.Tests.{ltb-true, ltb-false}
 use lib.Dec.{ltb}
-use lib.IntN.{ℤ, pos, natAbs}
+use lib.IntN.{ℤ, pos}
 use lib.ListN.{length, getD, length-append, List·getD-append}
 use lib.Seq.{ext-getD, getD-at}
 use lib.Signed.{_≤ℤ_}
@@ -23,10 +23,12 @@ use Rattle.affine.proofs.Answers.{checked-accepted}
 use Rattle.affine.proofs.RangeSize.{low-not-above-high, low-within, high-within}
 use Rattle.affine.proofs.InputRow.{input-centred}
 use Rattle.affine.proofs.Distance.{form-centred}
+use Rattle.interval.specs.Interval.{RangeWithin}
 use Rattle.sheet.specs.declared.Schedule.{Schedule}
 use Rattle.sheet.specs.Lines.{natural, endsAt}
 use Rattle.sheet.proofs.Passed.{Passed}
-use Rattle.evaluation.specs.Work.{rowOf, ownRange, ownRanges, rowAnswer}
+use Rattle.evaluation.specs.Ranges.{rowOf, ownRange, ownRanges, operandRanges}
+use Rattle.evaluation.specs.Work.{rowAnswer}
 use Rattle.evaluation.proofs.Induction.{lt-or-ge}
 use Rattle.evaluation.proofs.RowLines.{rowAnswer-input, rowAnswer-step, ends-ordered}
 use Rattle.evaluation.proofs.SoundRows.{Sound, step-tells}
@@ -34,11 +36,6 @@ use Rattle.evaluation.proofs.SoundRows.{Sound, step-tells}
 -- the range that stands for none
 abbrev pub noRange : Range
 noRange = endsRange (pos 0) (pos 0)
-
--- both ends at most n from 0
-pub record RangeWithin (n : ℕ) (range : Range) : Type 0 where
-  pub low-in : natAbs (range .low) ≤ n
-  pub high-in : natAbs (range .high) ≤ n
 
 module _ (c : Schedule) where
   -- what holds of an input's ends, and of the range of any other row's form, holds of the own range
@@ -84,7 +81,7 @@ module _ (c : Schedule) where
     answer-range h =
         own-cases (λ z. rowAnswer c rows .range ≡ z) (length rows) (rowAnswer c rows .row)
         (λ l. let e = rowAnswer-input c rows (length rows) refl l in ap (λ a. a .range) (e ∙ checked-accepted _ _ (rw e at h)))
-        (λ l. let e = rowAnswer-step c rows (length rows) refl l in ap (λ a. a .range) e ∙ step-tells _ rows (ownRanges c rows) _ ∙ ap (λ a. formRange (a .row)) (sym e))
+        (λ l. let e = rowAnswer-step c rows (length rows) refl l in ap (λ a. a .range) e ∙ step-tells _ rows (operandRanges c rows) _ ∙ ap (λ a. formRange (a .row)) (sym e))
 
     module _ (passed : Passed c) (h : rowAnswer c rows .status ≡ Accepted) where
       abbrev r : Row

@@ -6,7 +6,8 @@ use Rattle.affine.specs.Product.{totals}
 use Rattle.affine.specs.Root.{missed, misses}
 use Rattle.affine.proofs.SquareError.{misses-of-totals}
 use Rattle.sheet.specs.Lines.{natural}
-use Rattle.evaluation.specs.Work.{rowOf, worked}
+use Rattle.evaluation.specs.Ranges.{rowOf}
+use Rattle.evaluation.specs.Work.{worked}
 use Rattle.evaluation.specs.Roots.{Misses-every-number}
 use Rattle.evaluation.proofs.Sequence.{getD-grown}
 use Rattle.evaluation.proofs.WorkLaws.{nextRow, rowsUpTo, went}

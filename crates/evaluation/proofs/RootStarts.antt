@@ -12,7 +12,8 @@ use Rattle.affine.proofs.RootStarts.{form-starts, input-starts}
 use Rattle.sheet.specs.declared.Schedule.{Schedule}
 use Rattle.sheet.specs.Lines.{endsAt}
 use Rattle.sheet.proofs.Passed.{Passed, passed}
-use Rattle.evaluation.specs.Work.{rowOf, ownRange, worked}
+use Rattle.evaluation.specs.Ranges.{rowOf, ownRange}
+use Rattle.evaluation.specs.Work.{worked}
 use Rattle.evaluation.specs.Roots.{Candidates-start-from-zero}
 use Rattle.evaluation.proofs.Sequence.{length-grown, getD-grown}
 use Rattle.evaluation.proofs.WorkLaws.{nextRow, rowsUpTo, Went, went}

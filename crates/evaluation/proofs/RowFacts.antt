@@ -20,10 +20,9 @@ use Rattle.affine.proofs.WellFormed.{input-own, input-own-nonneg, product-own, 
 use Rattle.sheet.specs.declared.Schedule.{Schedule}
 use Rattle.sheet.specs.Lines.{natural, endsAt}
 use Rattle.sheet.proofs.Passed.{Passed}
-use Rattle.evaluation.specs.Work.{rowCount}
 use Rattle.evaluation.proofs.Sequence.{complete}
 use Rattle.evaluation.proofs.Induction.{lt-or-ge}
-use Rattle.evaluation.proofs.WorkLaws.{Went}
+use Rattle.evaluation.proofs.WorkLaws.{Begun}
 use Rattle.evaluation.proofs.EveryRow.{none-later}
 use Rattle.evaluation.proofs.Made.{Made, is-input, is-constant, is-sum, is-difference, is-product, is-reciprocal, is-root, row, range, made}
 use Rattle.evaluation.proofs.RowLines.{rows-few, ends-ordered}
@@ -35,12 +34,9 @@ plus a b = a +ℤ b
 abbrev less : ℤ → ℤ → ℤ
 less a b = a -ℤ b
 
-module _ (c : Schedule) (passed : Passed c) (x : ℕ → Fraction) (went : Went c (rowCount c)) where
+module _ (c : Schedule) (passed : Passed c) (x : ℕ → Fraction) {count : ℕ} (begun : Begun c count) where
   abbrev squares : ℕ
   squares = natural (c .squares)
-
-  abbrev count : ℕ
-  count = rowCount c
 
   -- a row of the sheet, what it was made of
   abbrev f : ℕ → Row
@@ -51,7 +47,7 @@ module _ (c : Schedule) (passed : Passed c) (x : ℕ → Fraction) (went : Went 
   g n = range c passed x n
 
   origin : (n : ℕ) → n < count → Made c passed x n
-  origin n h = made c passed x went n h
+  origin n h = made c passed x begun n h
 
   apart : {n m : ℕ} → n < m → m ≢ n
   apart {n} {m} l e = absurd (let h : n < n = subst (λ k. n < k) e l in omega arith)
@@ -64,21 +60,21 @@ module _ (c : Schedule) (passed : Passed c) (x : ℕ → Fraction) (went : Went 
   own-nonneg n h = by-origin (origin n h)
     where
       here : n < symbols
-      here = omega (arith, rows-few c passed)
+      here = omega (arith, begun .few, rows-few c passed)
 
       natural-own : {r : Row} {k : ℕ} → f n ≡ r → at (r .linear) n ≡ pos k → pos 0 ≤ℤ at (f n .linear) n
       natural-own e q = subst (λ z. pos 0 ≤ℤ z) (sym (ap (λ r. at (r .linear) n) e ∙ q)) (pos-≤ℤ (omega arith))
 
       by-origin : Made c passed x n → pos 0 ≤ℤ at (f n .linear) n
-      by-origin (is-input l e v) =
+      by-origin (is-input l e v p) =
           subst (λ z. pos 0 ≤ℤ z) (sym (ap (λ r. at (r .linear) n) e ∙ input-own n (endsAt c n .low) (endsAt c n .high) here))
           (input-own-nonneg (endsAt c n .low) (endsAt c n .high) (ends-ordered c passed n l))
-      by-origin (is-constant l v e q) = natural-own e (constant-free n v .linear)
-      by-origin (is-sum l i j hi hj e v) = natural-own e (zip-free n plus refl (f i) (f j) (none-later c i n hi) (none-later c j n hj) .linear)
-      by-origin (is-difference l i j hi hj e v) = natural-own e (zip-free n less refl (f i) (f j) (none-later c i n hi) (none-later c j n hj) .linear)
-      by-origin (is-product l i j hi hj e v) = natural-own e (product-own squares n (f i) (f j) here)
-      by-origin (is-reciprocal l i hi a e v) = natural-own e (reciprocal-own squares n (f i) (distance (g i)) here)
-      by-origin (is-root l i hi a s e v) = natural-own e (root-own squares n (f i) (g i .low) here)
+      by-origin (is-constant l v e q p) = natural-own e (constant-free n v .linear)
+      by-origin (is-sum l i j hi hj e v p) = natural-own e (zip-free n plus refl (f i) (f j) (none-later c i n hi) (none-later c j n hj) .linear)
+      by-origin (is-difference l i j hi hj e v p) = natural-own e (zip-free n less refl (f i) (f j) (none-later c i n hi) (none-later c j n hj) .linear)
+      by-origin (is-product l i j hi hj e v p) = natural-own e (product-own squares n (f i) (f j) here)
+      by-origin (is-reciprocal l i hi a e v p) = natural-own e (reciprocal-own squares n (f i) (distance (g i)) here)
+      by-origin (is-root l i hi a s e v p) = natural-own e (root-own squares n (f i) (g i .low) here)
 
   pub own-is : (n : ℕ) → n < count → at (f n .linear) n ≡ pos (own n)
   own-is n h = sym (natAbs-of-nonneg (own-nonneg n h))
@@ -88,28 +84,28 @@ module _ (c : Schedule) (passed : Passed c) (x : ℕ → Fraction) (went : Went 
   alone n h = by-origin (origin n h)
     where
       by-origin : Made c passed x n → NoPairOf n (f n)
-      by-origin (is-input l e v) = subst (NoPairOf n) (sym e) (input-no-pair n n (endsAt c n .low) (endsAt c n .high))
-      by-origin (is-constant l v e q) = subst (NoPairOf n) (sym e) (free-no-pair n (constantRow v) (constant-free n v))
-      by-origin (is-sum l i j hi hj e v) = subst (NoPairOf n) (sym e) (free-no-pair n (addRows (f i) (f j)) (zip-free n plus refl (f i) (f j) (none-later c i n hi) (none-later c j n hj)))
-      by-origin (is-difference l i j hi hj e v) = subst (NoPairOf n) (sym e) (free-no-pair n (subtractRows (f i) (f j)) (zip-free n less refl (f i) (f j) (none-later c i n hi) (none-later c j n hj)))
-      by-origin (is-product l i j hi hj e v) = subst (NoPairOf n) (sym e) (product-no-pair n squares n (f i) (f j) (none-later c i n hi) (none-later c j n hj))
-      by-origin (is-reciprocal l i hi a e v) = subst (NoPairOf n) (sym e) (reciprocal-no-pair n squares n (f i) (distance (g i)) (none-later c i n hi))
-      by-origin (is-root l i hi a s e v) = subst (NoPairOf n) (sym e) (root-no-pair n squares n (f i) (g i .low) (none-later c i n hi))
+      by-origin (is-input l e v p) = subst (NoPairOf n) (sym e) (input-no-pair n n (endsAt c n .low) (endsAt c n .high))
+      by-origin (is-constant l v e q p) = subst (NoPairOf n) (sym e) (free-no-pair n (constantRow v) (constant-free n v))
+      by-origin (is-sum l i j hi hj e v p) = subst (NoPairOf n) (sym e) (free-no-pair n (addRows (f i) (f j)) (zip-free n plus refl (f i) (f j) (none-later c i n hi) (none-later c j n hj)))
+      by-origin (is-difference l i j hi hj e v p) = subst (NoPairOf n) (sym e) (free-no-pair n (subtractRows (f i) (f j)) (zip-free n less refl (f i) (f j) (none-later c i n hi) (none-later c j n hj)))
+      by-origin (is-product l i j hi hj e v p) = subst (NoPairOf n) (sym e) (product-no-pair n squares n (f i) (f j) (none-later c i n hi) (none-later c j n hj))
+      by-origin (is-reciprocal l i hi a e v p) = subst (NoPairOf n) (sym e) (reciprocal-no-pair n squares n (f i) (distance (g i)) (none-later c i n hi))
+      by-origin (is-root l i hi a s e v p) = subst (NoPairOf n) (sym e) (root-no-pair n squares n (f i) (g i .low) (none-later c i n hi))
 
   -- "A symbol whose own coefficient is 0 has coefficient 0 in every row"
   pub owned : (n m : ℕ) → n < count → m < count → own m ≡ 0 → FreeOf m (f n)
   owned n m h hm z = complete (λ n. n < count → FreeOf m (f n)) (λ n ih h. by-place n h ih (lt-or-ge n m)) n h
     where
       by-origin : (n : ℕ) → m < n → n < count → ((i : ℕ) → i < n → i < count → FreeOf m (f i)) → Made c passed x n → FreeOf m (f n)
-      by-origin n k h ih (is-input l e v) = subst (FreeOf m) (sym e) (input-free m n (endsAt c n .low) (endsAt c n .high) (λ q. apart k (sym q)))
-      by-origin n k h ih (is-constant l v e q) = subst (FreeOf m) (sym e) (constant-free m v)
-      by-origin n k h ih (is-sum l i j hi hj e v) = subst (FreeOf m) (sym e) (zip-free m plus refl (f i) (f j) (ih i hi (omega arith)) (ih j hj (omega arith)))
-      by-origin n k h ih (is-difference l i j hi hj e v) = subst (FreeOf m) (sym e) (zip-free m less refl (f i) (f j) (ih i hi (omega arith)) (ih j hj (omega arith)))
-      by-origin n k h ih (is-product l i j hi hj e v) =
+      by-origin n k h ih (is-input l e v p) = subst (FreeOf m) (sym e) (input-free m n (endsAt c n .low) (endsAt c n .high) (λ q. apart k (sym q)))
+      by-origin n k h ih (is-constant l v e q p) = subst (FreeOf m) (sym e) (constant-free m v)
+      by-origin n k h ih (is-sum l i j hi hj e v p) = subst (FreeOf m) (sym e) (zip-free m plus refl (f i) (f j) (ih i hi (omega arith)) (ih j hj (omega arith)))
+      by-origin n k h ih (is-difference l i j hi hj e v p) = subst (FreeOf m) (sym e) (zip-free m less refl (f i) (f j) (ih i hi (omega arith)) (ih j hj (omega arith)))
+      by-origin n k h ih (is-product l i j hi hj e v p) =
           subst (FreeOf m) (sym e) (product-free m squares n (f i) (f j) (λ q. apart k (sym q)) (ih i hi (omega arith)) (ih j hj (omega arith)))
-      by-origin n k h ih (is-reciprocal l i hi a e v) =
+      by-origin n k h ih (is-reciprocal l i hi a e v p) =
           subst (FreeOf m) (sym e) (reciprocal-free m squares n (f i) (distance (g i)) (λ q. apart k (sym q)) (ih i hi (omega arith)))
-      by-origin n k h ih (is-root l i hi a s e v) =
+      by-origin n k h ih (is-root l i hi a s e v p) =
           subst (FreeOf m) (sym e) (root-free m squares n (f i) (g i .low) (λ q. apart k (sym q)) (ih i hi (omega arith)))
 
       by-place : (n : ℕ) → n < count → ((i : ℕ) → i < n → i < count → FreeOf m (f i)) → (n < m) ⊎ (m ≤ n) → FreeOf m (f n)

@@ -14,14 +14,15 @@ use Rattle.sheet.specs.declared.Schedule.{Schedule}
 use Rattle.sheet.specs.Lines.{natural, endsAt, stepAt}
 use Rattle.sheet.proofs.Passing.{StepPassed}
 use Rattle.sheet.proofs.Passed.{Passed}
-use Rattle.evaluation.specs.Work.{rowCount, ownRanges, stepAnswer, rowAnswer}
+use Rattle.evaluation.specs.Ranges.{operandRanges}
+use Rattle.evaluation.specs.Work.{rowCount, stepAnswer, rowAnswer}
 
 pub rowAnswer-input : (c : Schedule) (rows : List Row) (n : ℕ) → length rows ≡ n → n < natural (c .inputs) → rowAnswer c rows ≡ inputAnswer n (endsAt c n .low) (endsAt c n .high)
 unfolding rowAnswer
 rowAnswer-input c rows n e h = rw (e, lt-ltb n (natural (c .inputs)) h)
 
 pub rowAnswer-step : (c : Schedule) (rows : List Row) (n : ℕ) → length rows ≡ n → natural (c .inputs) ≤ n
-    → rowAnswer c rows ≡ stepAnswer (natural (c .squares)) rows (ownRanges c rows) (stepAt c (n - natural (c .inputs)))
+    → rowAnswer c rows ≡ stepAnswer (natural (c .squares)) rows (operandRanges c rows) (stepAt c (n - natural (c .inputs)))
 unfolding rowAnswer
 rowAnswer-step c rows n e h = rw (e, le-ltb n (natural (c .inputs)) h)
 

@@ -29,7 +29,8 @@ use Rattle.sheet.specs.declared.Step.{Step}
 use Rattle.sheet.specs.declared.Schedule.{Schedule}
 use Rattle.sheet.specs.Lines.{natural, endsAt, stepAt}
 use Rattle.sheet.specs.Limits.{lastBinary}
-use Rattle.evaluation.specs.Work.{rowOf, ownRanges, namedRow, namedRange, binaryAnswer, unaryAnswer, stepAnswer, rowAnswer}
+use Rattle.evaluation.specs.Ranges.{rowOf, namedRange, operandRanges}
+use Rattle.evaluation.specs.Work.{namedRow, binaryAnswer, unaryAnswer, stepAnswer, rowAnswer}
 
 -- ---- how a step makes its row, which owns a symbol: what the row has, K, from what each operand has, J
 pub record Kept (J K : Row → Type 0) (squares own : ℕ) : Type 0 where
@@ -121,7 +122,7 @@ row-sound c rows =
     pick-elim SoundAnswer (ltb n (natural (c .inputs))) _ _
     (λ e. checked-sound (inputRow n low high) (endsRange low high) (input-shaped n low high))
     (λ e. of-step SoundAnswer Any Shaped (λ r s. checked-sound r (formRange r) s) (λ s. zeros-sound)
-    (natural (c .squares)) rows (shaped (natural (c .squares)) n) (λ k. tt) (ownRanges c rows) (stepAt c (n - natural (c .inputs))))
+    (natural (c .squares)) rows (shaped (natural (c .squares)) n) (λ k. tt) (operandRanges c rows) (stepAt c (n - natural (c .inputs))))
 
 -- ---- the range of a step's answer
 abbrev TellsForm : Answer → Type 0
@@ -151,4 +152,4 @@ row-radius c rows =
     pick-elim TellsRadius (ltb n (natural (c .inputs))) _ _
     (λ e. answer-radius (inputRow n low high) (endsRange low high))
     (λ e. of-step TellsRadius Any Shaped (λ r s. answer-radius r (formRange r)) (λ s. zeros-radius)
-    (natural (c .squares)) rows (shaped (natural (c .squares)) n) (λ k. tt) (ownRanges c rows) (stepAt c (n - natural (c .inputs))))
+    (natural (c .squares)) rows (shaped (natural (c .squares)) n) (λ k. tt) (operandRanges c rows) (stepAt c (n - natural (c .inputs))))

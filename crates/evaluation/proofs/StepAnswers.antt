@@ -22,7 +22,8 @@ use Rattle.sheet.specs.Lines.{natural, endsAt, stepAt}
 use Rattle.sheet.specs.Limits.{lastBinary}
 use Rattle.sheet.proofs.Passing.{Natural}
 use Rattle.evaluation.specs.Table.{rowAt, rangeAt, rowsIn, rangesIn, RowsWithin, Operands, RangesOf}
-use Rattle.evaluation.specs.Work.{ownRanges, namedRow, namedRange, binaryAnswer, unaryAnswer, stepAnswer, rowAnswer}
+use Rattle.evaluation.specs.Ranges.{namedRange, operandRanges}
+use Rattle.evaluation.specs.Work.{namedRow, binaryAnswer, unaryAnswer, stepAnswer, rowAnswer}
 use Rattle.evaluation.proofs.RowLines.{rowAnswer-input, rowAnswer-step}
 use Rattle.evaluation.proofs.OwnRanges.{noRange}
 
@@ -103,7 +104,7 @@ module _ (c : Schedule) (table ranges : List ℤ) (n : ℕ) where
 
   -- squares and inputs: the counts, as read; the second table holds the own ranges
   pub step-answer : {a : Answer} {squares inputs : ℕ} → squares ≡ natural (c .squares) → inputs ≡ natural (c .inputs) → natural (c .inputs) ≤ n
-      → rangesIn ranges n ≡ ownRanges c (rowsIn table n)
+      → rangesIn ranges n ≡ operandRanges c (rowsIn table n)
       → a ≡ stepAnswer squares (rowsIn table n) (rangesIn ranges n) (stepAt c (n - inputs)) → a ≡ rowAnswer c (rowsIn table n)
   step-answer {a} {squares} {inputs} e f h own q =
       q

@@ -2,8 +2,8 @@
 -- stands what stood there before. And what a row's numbers, and a range's, are.
 use mathlib.Core.Path.{_≡_, sym, ap, ap₂, _∙_}
 use mathlib.Core.List.{List, [], _∷_, _++_, append-assoc, append-nil}
-use Prim.Native.Nat.{ℕ, zero, suc, _+_, _*_, _≤_, _<_}
-use native.Mathlib.Nat.{le-of-suc-le-suc, not-suc-le-zero, mul-suc}
+use Prim.Native.Nat.{ℕ, zero, suc, _+_, _-_, _*_, _≤_, _<_}
+use native.Mathlib.Nat.{le-of-suc-le-suc, not-suc-le-zero, mul-suc, mul-add}
 use native.Mathlib.Omega.{arith}
 use lib.IntN.{ℤ}
 use lib.ListN.{length, getD, take, drop, length-append, length-drop}
@@ -79,6 +79,20 @@ module _ {A : Type 0} (width : ℕ) (of : A → List ℤ) where
     unfolding after
     part-after i h = part-of-numbers d xs (drop (width * length xs) table) i h wide
 
+    -- behind them stands what stood there before
+    pub part-beyond : (i : ℕ) → length xs ≤ i → part width (after width of xs table) i ≡ part width table i
+    unfolding after
+    part-beyond i h =
+        let before = allNumbers of xs in
+        let at = width * length xs in
+        let split : width * i ≡ at + width * (i - length xs) = rw (sym (mul-add width (length xs) (i - length xs))) (ap (λ k. width * k) (omega arith)) in
+        ap (λ k. take width (drop k (before ++ drop at table))) split
+        ∙ ap (take width)
+        (sym (drop-drop (width * (i - length xs)) at (before ++ drop at table))
+        ∙ ap (drop (width * (i - length xs))) (drop-at before (drop at table) at (length-numbers-of d xs wide))
+        ∙ drop-drop (width * (i - length xs)) at table)
+        ∙ ap (λ k. take width (drop k table)) (sym split)
+
     -- one more
     pub after-more : (x : A) → length (of x) ≡ width → after width of (xs ++ (x ∷ [])) table ≡ paste (after width of xs table) (width * length xs) (of x) width
     unfolding after
@@ -94,3 +108,11 @@ module _ {A : Type 0} (width : ℕ) (of : A → List ℤ) where
         sym (drop-drop width at (before ++ behind)) ∙ ap (drop width) (drop-at before behind at (length-numbers-of d xs wide)) ∙ drop-drop width at table in
         ap₂ (λ a k. a ++ drop k table) (numbers-more xs x) end
         ∙ sym (ap₂ (λ a b. a ++ b) (ap₂ (λ a b. a ++ b) head middle) rest)
+
+  -- put again, as many: of the first nothing is left
+  pub after-again : (d : A) (xs ys : List A) (table : List ℤ) → Wide d xs → length xs ≡ length ys → after width of ys (after width of xs table) ≡ after width of ys table
+  unfolding after
+  after-again d xs ys table wide e =
+      ap (λ k. allNumbers of ys ++ drop (width * k) (allNumbers of xs ++ drop (width * length xs) table)) (sym e)
+      ∙ ap (λ l. allNumbers of ys ++ l) (drop-at (allNumbers of xs) (drop (width * length xs) table) (width * length xs) (length-numbers-of d xs wide))
+      ∙ ap (λ k. allNumbers of ys ++ drop (width * k) table) e

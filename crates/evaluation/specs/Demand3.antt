@@ -12,7 +12,8 @@ use Rattle.sheet.specs.declared.Schedule.{Schedule}
 use Rattle.sheet.specs.Causes.{accepted}
 use Rattle.sheet.specs.Lines.{natural, endsAt, stepAt}
 use Rattle.evaluation.specs.Table.{rowPart, rangePart, tableAfter, rangesAfter}
-use Rattle.evaluation.specs.Work.{rowOf, answeredRanges, rowCount, evaluated}
+use Rattle.evaluation.specs.Work.{rowCount, evaluated}
+use Rattle.evaluation.specs.Ranges.{rowOf, answeredRanges}
 use Rattle.evaluation.specs.Asking.{rangeOf, sameOf}
 use Rattle.evaluation.specs.Values.{inUnits, Within, FromMinusOneToOne, exactValue, ownOf, foundValue}
 

@@ -9,7 +9,8 @@ use Rattle.affine.specs.Root.{rootCandidate, missed, misses, belowOne, startsBe
 use Rattle.sheet.specs.declared.Schedule.{Schedule}
 use Rattle.sheet.specs.Lines.{natural}
 use Rattle.sheet.specs.Writing.{testOf}
-use Rattle.evaluation.specs.Work.{rowOf, ownRange, worked}
+use Rattle.evaluation.specs.Ranges.{rowOf, ownRange}
+use Rattle.evaluation.specs.Work.{worked}
 
 -- Cause 12: "low below 1, or the candidate's own range starts below 0." No sheet meets the second half: where the low end of a row's own range is at
 -- least 1, the candidate for its root does not start below 0. `proofs/RootStarts.antt` proves it of every schedule that passes the tests 3, 4 and 5, as

@@ -13,7 +13,7 @@ use Rattle.affine.specs.Form.{formValue}
 use Rattle.sheet.specs.declared.Step.{Step}
 use Rattle.sheet.specs.declared.Schedule.{Schedule}
 use Rattle.sheet.specs.Lines.{natural, stepAt}
-use Rattle.evaluation.specs.Work.{rowOf}
+use Rattle.evaluation.specs.Ranges.{rowOf}
 
 -- "in fractions, a whole number meaning itself over 4096"
 abbrev pub inUnits : ℤ → Fraction

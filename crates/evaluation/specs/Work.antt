@@ -1,17 +1,16 @@
--- Evaluation without tables: the rows of a schedule one after another, each worked from those before it, up to the last or to a refusal; their
--- ranges; and what the lent tables then hold.
+-- Evaluation without tables: the rows of a schedule one after another, each worked from those before it and their own ranges, up to the last or to a
+-- refusal.
 use mathlib.Core.Bool.{Bool, false}
 use mathlib.Core.List.{List, [], _∷_, _++_}
 use Prim.Native.Nat.{ℕ, zero, suc, _+_, _-_, _*_}
 use lib.Dec.{eqb, leb, ltb}
-use lib.IntN.{ℤ, pos}
-use lib.ListN.{length, getD}
+use lib.IntN.{ℤ}
+use lib.ListN.{length}
 use Rattle.affine.specs.declared.Row.{Row}
 use Rattle.affine.specs.declared.Range.{Range}
 use Rattle.affine.specs.declared.Answer.{Answer}
-use Rattle.affine.specs.Lists.{pick, tabulate}
-use Rattle.affine.specs.Row.{formRange}
-use Rattle.affine.specs.Steps.{constantRow, addRows, subtractRows, checked, endsRange, inputAnswer, number}
+use Rattle.affine.specs.Lists.{pick}
+use Rattle.affine.specs.Steps.{constantRow, addRows, subtractRows, checked, inputAnswer, number}
 use Rattle.affine.specs.Product.{product}
 use Rattle.affine.specs.Reciprocal.{reciprocal}
 use Rattle.affine.specs.Root.{squareRoot}
@@ -23,33 +22,15 @@ use Rattle.sheet.specs.Limits.{lastBinary}
 use Rattle.sheet.specs.Lines.{natural, endsAt, stepAt}
 use Rattle.sheet.specs.Writing.{testOf}
 use Rattle.evaluation.specs.Table.{rowWidth, rangeWidth}
+use Rattle.evaluation.specs.Ranges.{rowOf, namedRange, operandRanges}
 
 -- "Rows are numbered from 1: inputs first, then steps."
 abbrev pub rowCount : Schedule → ℕ
 rowCount c = natural (c .inputs) + natural (c .steps)
 
--- the row with index i
-abbrev pub rowOf : List Row → ℕ → Row
-rowOf rows i = getD rows i (constantRow (pos 0))
-
--- The own range of the row with index i: "an input row's range is its own low and high", and that of any other row the range of its form. It is the one
--- that the row's answer tells (`proofs/OwnRanges.antt`).
-abbrev pub ownRange : Schedule → ℕ → Row → Range
-ownRange c i r = pick (ltb i (natural (c .inputs))) (endsRange (endsAt c i .low) (endsAt c i .high)) (formRange r)
-
-unfoldable pub ownRanges : Schedule → List Row → List Range
-ownRanges c rows = tabulate (length rows) (λ i. ownRange c i (rowOf rows i))
-
--- The answered ranges of rows, which are told, printed and kept in the second table: their own.
-abbrev pub answeredRanges : Schedule → List Row → List Range
-answeredRanges c rows = ownRanges c rows
-
--- the row that a step names, among the rows before the step, and its own range
+-- the row that a step names, among the rows before the step
 abbrev pub namedRow : List Row → ℤ → Row
 namedRow rows n = rowOf rows (natural n - 1)
-
-abbrev pub namedRange : List Range → ℤ → Range
-namedRange ranges n = getD ranges (natural n - 1) (endsRange (pos 0) (pos 0))
 
 -- the codes that name two rows: "2 add, 3 subtract second from first, 4 multiply"
 unfoldable pub binaryAnswer : ℕ → ℕ → ℤ → Row → Row → Answer
@@ -73,7 +54,7 @@ unfoldable pub rowAnswer : Schedule → List Row → Answer
 rowAnswer c rows =
     pick (ltb (length rows) (natural (c .inputs)))
     (inputAnswer (length rows) (endsAt c (length rows) .low) (endsAt c (length rows) .high))
-    (stepAnswer (natural (c .squares)) rows (ownRanges c rows) (stepAt c (length rows - natural (c .inputs))))
+    (stepAnswer (natural (c .squares)) rows (operandRanges c rows) (stepAt c (length rows - natural (c .inputs))))
 
 -- the rows worked, and how the work ended
 pub record Worked : Type 0 where

@@ -1,8 +1,9 @@
 // Evaluation of a schedule into two lent tables, its rows and their ranges, and what is asked about them (manual, sections 6 and 7).
+mod answered; // answered.rt: the answered ranges, each the overlap of a row's own range and its plain one
 mod asking; // asking.rt: refusals 9, 8 and 6 of a row asked for
 mod steps; // steps.rt: the row of a line of the sheet, from the rows before it
 pub mod table; // table.rt: rows and ranges read from tables of numbers, put into them, and rows compared there
-mod work; // work.rt: all rows, one after another
+mod work; // work.rt: all rows and their own ranges, one after another
 
 use sheet::Refusal;
 use sheet::Schedule;
@@ -10,7 +11,8 @@ use sheet::Schedule;
 pub use work::row_count;
 ghost use mathlib.Core.Path.{_≡_};
 ghost use Rattle.evaluation.specs.Table.{tableAfter, rangesAfter};
-ghost use Rattle.evaluation.specs.Work.{answeredRanges, evaluated};
+ghost use Rattle.evaluation.specs.Work.{evaluated};
+ghost use Rattle.evaluation.specs.Ranges.{answeredRanges};
 ghost use Rattle.evaluation.specs.Asking.{rangeOf, sameOf, partOf};
 
 // What a range answers; 0 and 0 beside a refusal.
@@ -50,7 +52,14 @@ pub fn evaluate(schedule: Schedule, table: &mut [i64], ranges: &mut [i64]) -> Re
             place: 0,
         };
     }
-    work::work_rows(schedule, table, ranges, rows)
+    let refusal = work::work_rows(schedule, table, ranges, rows);
+    let worked = if refusal.number == 0 {
+        rows
+    } else {
+        refusal.place - 1
+    };
+    answered::narrow(schedule, ranges, worked);
+    refusal
 }
 
 // The range of a row, from tables that hold so many rows and their ranges.

@@ -1,4 +1,4 @@
-// All rows of a schedule, one after another, into a table, and their ranges into a second one.
+// All rows of a schedule, one after another, into a table, and their own ranges into a second one.
 use crate::steps::step_answer;
 use crate::table::put_range;
 use crate::table::put_row;
@@ -12,7 +12,8 @@ ghost use lib.ListN.{length};
 ghost use Rattle.affine.specs.Steps.{number};
 ghost use Rattle.sheet.proofs.Passed.{Passed};
 ghost use Rattle.evaluation.specs.Table.{rowWidth, rangeWidth, tableAfter, rangesAfter};
-ghost use Rattle.evaluation.specs.Work.{rowCount, answeredRanges, worked};
+ghost use Rattle.evaluation.specs.Ranges.{ownRanges};
+ghost use Rattle.evaluation.specs.Work.{rowCount, worked};
 
 // The cause that an answer stands for (manual, section 6), or 0.
 fn status_number(s: Status) -> u64
@@ -38,7 +39,7 @@ pub fn work_rows(c: Schedule, table: &mut [i64], ranges: &mut [i64], rows: usize
     requires { ⌜ (rowWidth * rows ≤ length (now table)) × (rangeWidth * rows ≤ length (now ranges)) ⌝ }
     ensures answer { λ r. ⌜ r ≡ worked c rows .refusal ⌝ }
     ensures left { λ r. ⌜ now (table .exit) ≡ tableAfter (worked c rows .rows) (now (table .entry)) ⌝ }
-    ensures told { λ r. ⌜ now (ranges .exit) ≡ rangesAfter (answeredRanges c (worked c rows .rows)) (now (ranges .entry)) ⌝ }
+    ensures own { λ r. ⌜ now (ranges .exit) ≡ rangesAfter (ownRanges c (worked c rows .rows)) (now (ranges .entry)) ⌝ }
 {
     let inputs = c.inputs as usize;
     let squares = c.squares as usize;

@@ -6,8 +6,8 @@ use Prim.Native.Nat.{ℕ, zero, suc, _+_, _-_, _*_, _/_, _%_, _≤_, _<_, zero-l
 use native.Mathlib.Nat.{div-add-mod', mod-lt, div-le-self, suc-mul, le-antisymm, lt-div-mul-add, div-lt-iff-lt-mul, le-of-mul-le-mul-right, lt-of-mul-lt-mul-right, zero-div}
 use native.Mathlib.Omega.{arith}
 use lib.IntN.{ℤ, pos, negsuc, negℤ, natAbs, _+ℤ_, _-ℤ_, _*ℤ_}
-use lib.Signed.{_≤ℤ_, _<ℤ_}
-use Rattle.integer.specs.Floor.{floorBy, floorQuotient, floorRemainder, ceilingQuotient}
+use lib.Signed.{shrZ, _≤ℤ_, _<ℤ_}
+use Rattle.integer.specs.Floor.{floorBy, floorQuotient, floorRemainder, ceilingQuotient, Ups-agree}
 use Rattle.integer.proofs.Ring.{con, _⊕_, _⊖_, _⊗_, neg, _≐_}
 use Rattle.integer.proofs.IntegerRing.{ringℤ}
 use Rattle.integer.proofs.Linear.{linℤ, _⊴_, _⊲_, _≗_, _⇒_, so}
@@ -140,6 +140,12 @@ natAbs-floorBy : (a : ℤ) (m : ℕ) → natAbs (floorBy a m) ≤ natAbs a
 natAbs-floorBy (pos n) m = div-le-self n m
 natAbs-floorBy (negsuc n) m = let h = div-le-self n m in omega arith
 
+-- the shift that copies the sign is the quotient by what it shifts by, case by case
+pub shift-is-floor : (a : ℤ) (m : ℕ) → shrZ a m ≡ floorQuotient a (pos m)
+unfolding floorQuotient
+shift-is-floor (pos n) m = refl
+shift-is-floor (negsuc n) m = refl
+
 pub zero-quotient : (d : ℤ) → floorQuotient (pos 0) d ≡ pos 0
 unfolding floorQuotient
 zero-quotient (pos d) = ap pos (zero-div d)
@@ -192,3 +198,18 @@ ceiling-more n d h k =
     let u : n / d < ceilingQuotient n d = lt-of-mul-lt-mul-right d l in
     let v : ceilingQuotient n d ≤ n / d + 1 = ceiling-least n d (n / d + 1) h (omega arith) in
     omega arith
+
+-- of natural numbers both ways to round up are one
+pub ups-agree : Ups-agree
+unfolding floorQuotient
+ups-agree zero d h =
+    let none : ceilingQuotient 0 d ≡ 0 = omega (arith, ceiling-at-most 0 d h) in
+    ap (λ k. negℤ (pos k)) (zero-div d) ∙ ap pos (sym none)
+ups-agree (suc m) d h =
+    let s = div-add-mod' m d in
+    let t = mod-lt m h in
+    let c = ceiling-covers (suc m) d h in
+    let l : m / d * d < ceilingQuotient (suc m) d * d = omega arith in
+    let u : m / d < ceilingQuotient (suc m) d = lt-of-mul-lt-mul-right d l in
+    let v : ceilingQuotient (suc m) d ≤ m / d + 1 = ceiling-least (suc m) d (m / d + 1) h (omega arith) in
+    ap pos (omega arith)

@@ -235,6 +235,10 @@ pub ≤ℚ-of-not-below : {x y : Fraction} → ¬ (x <ℚ y) → y ≤ℚ x
     by-cases (inl h) = absurd (n (record { cross = h }))
     by-cases (inr h) = record { cross = h }
 
+-- whole numbers that are in order as fractions are so by themselves
+pub ≤ℤ-of-whole : (a b : ℤ) → whole a ≤ℚ whole b → a ≤ℤ b
+≤ℤ-of-whole a b h = linℤ 2 (λ a b. a ⊗ con (pos 1) ⊴ b ⊗ con (pos 1) ⇒ so (a ⊴ b)) a b (omega arith) (h .cross)
+
 -- ---- 0 is what has the upper part 0
 pub ≈-zero-of-upper : {x : Fraction} → x .upper ≡ pos 0 → x ≈ whole (pos 0)
 ≈-zero-of-upper {x} e = record { cross = linℤ 2 (λ a a′. a ≗ con (pos 0) ⇒ so (a ⊗ con (pos 1) ≗ con (pos 0) ⊗ a′)) (x .upper) (x .lower) (omega arith) e }

@@ -13,8 +13,8 @@ use Rattle.integer.specs.Fraction.{Fraction, _≤ℚ_, _<ℚ_, whole}
 use Rattle.integer.specs.Root.{Start, IsRoot, oneMore, rootIn, root, integerRoot, floorRoot, Is-root, Root-unique, Is-floor-root}
 use Rattle.integer.proofs.Ring.{con, _⊗_}
 use Rattle.integer.proofs.Linear.{linℤ, _⊴_, _⇒_, so}
-use Rattle.integer.proofs.Order.{pos-≤ℤ, pos-<ℤ, <-of-pos}
-use Rattle.integer.proofs.Fraction.{orderedFractions, not-below-of-≤ℚ}
+use Rattle.integer.proofs.Order.{pos-≤ℤ, pos-<ℤ, ≤-of-pos, <-of-pos}
+use Rattle.integer.proofs.Fraction.{orderedFractions, not-below-of-≤ℚ, ≤ℤ-of-whole}
 use Rattle.integer.proofs.Bound.{le-trans, whole-le}
 
 -- ---- one root
@@ -147,3 +147,11 @@ pub floor-root-greatest : (x : Fraction) (s : ℕ) → whole (pos 0) ≤ℚ x �
 floor-root-greatest x s h k =
     let l = below-of-squares s (suc (floorRoot x)) (between-wholes (s * s) (suc (floorRoot x) * suc (floorRoot x)) k (is-floor-root x h .1)) in
     omega arith
+
+-- the root of a fraction that is not above a whole number is not above that number's root
+pub floor-root-at-most : (x : Fraction) (z : ℤ) → whole (pos 0) ≤ℚ x → x ≤ℚ whole z → floorRoot x ≤ integerRoot z
+floor-root-at-most x (pos n) h k =
+    let square = le-trans orderedFractions (is-floor-root x h .0) k in
+    let l = below-of-squares (floorRoot x) (suc (root n)) (omega (arith, ≤-of-pos _ n (≤ℤ-of-whole _ (pos n) square), is-root n .next-above)) in
+    omega arith
+floor-root-at-most x (negsuc n) h k = absurd (≤ℤ-of-whole (pos 0) (negsuc n) (le-trans orderedFractions h k) .le)

@@ -39,6 +39,13 @@ pub fn floor_remainder(a: i64, d: i64) -> i64
     }
 }
 
+// a over 4096, rounded down: the shift copies the sign.
+pub fn floor_quotient_4096(a: i64) -> i64
+    ensures { λ r. ⌜ r ≡ floorQuotient a (pos 4096) ⌝ }
+{
+    a >> 12
+}
+
 // a over 4096, to the nearest, exact halves upward: in halves of 4096, rounded down since the shift copies the sign, one more, and that halved.
 pub fn nearest_quotient_4096(a: i64) -> i64
     ensures { λ r. ⌜ r ≡ nearestQuotient a 4096 ⌝ }

@@ -1,6 +1,7 @@
 // Runs the divisions, the absolute value and the root of `integer` on their edges, one line each. `checker/integer_edges.py` makes the same lines.
 use integer::division::ceiling_quotient;
 use integer::division::floor_quotient;
+use integer::division::floor_quotient_4096;
 use integer::division::floor_remainder;
 use integer::division::nearest_quotient_4096;
 use integer::division::nearest_remainder_4096;
@@ -135,8 +136,9 @@ fn print_floor(a: i64, d: i64) {
 }
 
 fn print_by_4096(a: i64) {
-    io::write_all(1, b"nearest");
+    io::write_all(1, b"4096");
     print_signed(a);
+    print_signed(floor_quotient_4096(a));
     print_signed(nearest_quotient_4096(a));
     print_unsigned(nearest_remainder_4096(a));
     print_unsigned(absolute(a));

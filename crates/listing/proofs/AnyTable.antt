@@ -17,8 +17,8 @@ use Rattle.sheet.proofs.Texts.{texts-cong}
 use Rattle.evaluation.specs.Work.{rowCount, evaluated}
 use Rattle.evaluation.proofs.EvaluationEnds.{ends-tested, ends-worked}
 use Rattle.evaluation.proofs.RowLines.{rows-few}
-use Rattle.evaluation.proofs.AcceptedEvaluation.{rows-left-few, rows-left-within, ranges-left-ordered, worked-left}
-use Rattle.evaluation.proofs.WorkedTable.{part-held, range-held}
+use Rattle.evaluation.proofs.AcceptedEvaluation.{rows-left-few, rows-left-within, ranges-left-ordered, rows-left, range-left}
+use Rattle.evaluation.proofs.WorkedTable.{part-held}
 use Rattle.listing.specs.Listing.{columnNames, listing, refusalText, tableLeft, rangesLeft, scheduleText, textOf, tableNumbers, rangesNumbers}
 use Rattle.listing.specs.Held.{RowsHeld}
 use Rattle.listing.specs.Claims.{AnyTable}
@@ -43,12 +43,12 @@ module _ (t r u s : List ℤ) (long : tableNumbers ≤ length t) (long-r : range
     listing-alike e d =
         let left : RowsHeld (tableLeft c t r) (rowCount c) = record { few = rows-left-few c t r e; within = rows-left-within c t r e } in
         let right : RowsHeld (tableLeft c u s) (rowCount c) = record { few = rows-left-few c u s d; within = rows-left-within c u s d } in
-        let w = worked-left c t r e in
-        let v = worked-left c u s d in
+        let w = rows-left c t r e in
+        let v = rows-left c u s d in
         ap (λ l. columnNames ++ l)
         (texts-cong (rowCount c) 1
         (λ row l h. rows-agree left right (λ i k. part-held w i k ∙ sym (part-held v i k))
-        (ranges-left-ordered c t r e) (ranges-left-ordered c u s d) (λ i k. range-held w i k ∙ sym (range-held v i k)) row l (omega arith)))
+        (ranges-left-ordered c t r e) (ranges-left-ordered c u s d) (λ i k. range-left c t r e i k ∙ sym (range-left c u s d i k)) row l (omega arith)))
 
     schedule-alike : scheduleText c t r ≡ scheduleText c u s
     schedule-alike = by-test (ℕ-discrete (evaluated c t r .refusal .number) 0)

@@ -9,6 +9,7 @@ use Rattle.affine.specs.Lists.{tabulate, sum}
 use Rattle.affine.specs.PairOrder.{overPairs, firsts, seconds}
 use Rattle.affine.specs.Row.{span, low, high, agree, pairBelow, pairAbove, pairsBelow, pairsAbove, radius}
 use Rattle.affine.specs.Product.{linearTotals, pairTotals, squaredRadius, dropped, productOwn, productRow}
+use Rattle.interval.specs.Interval.{leastProduct, greatestProduct}
 use Rattle.sheet.specs.Lines.{zeroSchedule, lineOf, numbers, store}
 use Rattle.sheet.specs.Tests.{countsPass, endsPass, stepPasses, fault}
 use Rattle.sheet.specs.Number.{run, judged, afterSign, fieldAt}
@@ -16,7 +17,8 @@ use Rattle.sheet.specs.Reading.{readOf, readSheet, readLines, readAs, starts, f
 use Rattle.sheet.specs.Text.{decimal, numeral, line, texts}
 use Rattle.sheet.specs.Writing.{faultAt, testLines, testOf}
 use Rattle.evaluation.specs.Table.{allNumbers, after}
-use Rattle.evaluation.specs.Work.{ownRanges, binaryAnswer, stepAnswer, rowAnswer, withAnswer, worked, evaluated}
+use Rattle.evaluation.specs.Work.{binaryAnswer, stepAnswer, rowAnswer, withAnswer, worked, evaluated}
+use Rattle.evaluation.specs.Ranges.{ownRanges, plainStep, plainRange, answered}
 use Rattle.evaluation.specs.Asking.{rowRefusal, rangeRefusal, rowsRefusal, rangeOf, sameOf, partOf}
 use Rattle.listing.specs.Listing.{firstAmong, rowText, listing, refusalText, scheduleText, textOf, printed}
 
@@ -41,13 +43,13 @@ listingBytes =
     49 ∷ 32 ∷ 45 ∷ 53 ∷ 49 ∷ 50 ∷ 32 ∷ 53 ∷ 49 ∷ 50 ∷ 32 ∷ 53 ∷ 49 ∷ 50 ∷ 32 ∷ 48 ∷ 10 ∷
     50 ∷ 32 ∷ 52 ∷ 48 ∷ 57 ∷ 54 ∷ 32 ∷ 52 ∷ 48 ∷ 57 ∷ 54 ∷ 32 ∷ 48 ∷ 32 ∷ 48 ∷ 10 ∷
     51 ∷ 32 ∷ 51 ∷ 53 ∷ 56 ∷ 52 ∷ 32 ∷ 52 ∷ 54 ∷ 48 ∷ 56 ∷ 32 ∷ 48 ∷ 32 ∷ 48 ∷ 10 ∷
-    52 ∷ 32 ∷ 51 ∷ 48 ∷ 55 ∷ 50 ∷ 32 ∷ 53 ∷ 49 ∷ 56 ∷ 52 ∷ 32 ∷ 48 ∷ 32 ∷ 48 ∷ 10 ∷
+    52 ∷ 32 ∷ 51 ∷ 49 ∷ 51 ∷ 54 ∷ 32 ∷ 53 ∷ 49 ∷ 56 ∷ 52 ∷ 32 ∷ 48 ∷ 32 ∷ 48 ∷ 10 ∷
     53 ∷ 32 ∷ 56 ∷ 49 ∷ 57 ∷ 50 ∷ 32 ∷ 56 ∷ 49 ∷ 57 ∷ 50 ∷ 32 ∷ 48 ∷ 32 ∷ 48 ∷ 10 ∷
     54 ∷ 32 ∷ 45 ∷ 49 ∷ 48 ∷ 50 ∷ 52 ∷ 32 ∷ 49 ∷ 48 ∷ 50 ∷ 52 ∷ 32 ∷ 48 ∷ 32 ∷ 48 ∷ 10 ∷
     55 ∷ 32 ∷ 52 ∷ 48 ∷ 57 ∷ 54 ∷ 32 ∷ 52 ∷ 49 ∷ 54 ∷ 48 ∷ 32 ∷ 48 ∷ 32 ∷ 48 ∷ 10 ∷ []
 
 listing-printed : printed sheetBytes ≡ listingBytes
-unfolding sheetBytes listingBytes textOf scheduleText listing rowText refusalText firstAmong texts line numeral decimal readOf readSheet readLines readAs starts fieldsFrom fieldsAt run judged afterSign fieldAt store zeroSchedule evaluated worked withAnswer rowAnswer stepAnswer binaryAnswer testOf testLines faultAt lineOf numbers fault countsPass endsPass stepPasses ownRanges allNumbers after rowRefusal rangeRefusal rowsRefusal rangeOf sameOf partOf agree floorQuotient nearestQuotient nearestRemainder low high tabulate overPairs firsts seconds pairBelow pairAbove pairsBelow pairsAbove sum span linearTotals pairTotals radius squaredRadius dropped productOwn productRow
+unfolding sheetBytes listingBytes textOf scheduleText listing rowText refusalText firstAmong texts line numeral decimal readOf readSheet readLines readAs starts fieldsFrom fieldsAt run judged afterSign fieldAt store zeroSchedule evaluated worked withAnswer rowAnswer stepAnswer binaryAnswer testOf testLines faultAt lineOf numbers fault countsPass endsPass stepPasses ownRanges plainStep plainRange answered leastProduct greatestProduct allNumbers after rowRefusal rangeRefusal rowsRefusal rangeOf sameOf partOf agree floorQuotient nearestQuotient nearestRemainder low high tabulate overPairs firsts seconds pairBelow pairAbove pairsBelow pairsAbove sum span linearTotals pairTotals radius squaredRadius dropped productOwn productRow
 listing-printed = refl
 
 -- no byte: the first line is missing

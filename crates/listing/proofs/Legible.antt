@@ -11,13 +11,13 @@ use Rattle.affine.specs.Limits.{spanLimit}
 use Rattle.affine.specs.Lists.{at}
 use Rattle.affine.specs.Row.{span}
 use Rattle.affine.proofs.RowSize.{element-within}
+use Rattle.interval.specs.Interval.{RangeWithin}
 use Rattle.sheet.specs.Number.{digitOf}
 use Rattle.sheet.specs.declared.Refusal.{Refusal}
 use Rattle.sheet.proofs.Numeral.{field-complete}
 use Rattle.sheet.proofs.RefusalSize.{Small, lastPlace, read-small}
 use Rattle.evaluation.specs.Table.{rowPart, rangeAt, RangesOrdered}
 use Rattle.evaluation.proofs.AcceptedEvaluation.{rows-left-few, rows-left-within, ranges-left-ordered, ranges-left-within}
-use Rattle.evaluation.proofs.OwnRanges.{RangeWithin}
 use Rattle.evaluation.proofs.RefusalRow.{evaluated-small}
 use Rattle.evaluation.proofs.RowParts.{numbers-rowAt}
 use Rattle.listing.specs.Listing.{own, rowNumbers}

@@ -10,7 +10,8 @@ use Rattle.sheet.specs.declared.Refusal.{Refusal}
 use Rattle.sheet.specs.Text.{line, texts}
 use Rattle.sheet.specs.Reading.{readOf}
 use Rattle.evaluation.specs.Table.{tableAfter, rangesAfter}
-use Rattle.evaluation.specs.Work.{rowCount, answeredRanges, evaluated}
+use Rattle.evaluation.specs.Work.{rowCount, evaluated}
+use Rattle.evaluation.specs.Ranges.{answeredRanges}
 use Rattle.evaluation.specs.Asking.{rangeOf, sameOf, partOf}
 
 -- "Own is the own coefficient": row r owns symbol r, whose coefficient stands behind the centre and the symbols before it

@@ -2,6 +2,8 @@
 //! printed with one write.
 #[path = "../evaluation.rs"]
 mod evaluation;
+#[path = "../intervals.rs"]
+mod intervals;
 #[path = "../rows.rs"]
 mod rows;
 #[path = "../sheet.rs"]

@@ -20,7 +20,8 @@ use Rattle.sheet.specs.Limits.{maxSteps, endLimit}
 use Rattle.sheet.proofs.Passing.{EndsPassed, StepPassed}
 use Rattle.integer.proofs.Absolute.{fits-within}
 use Rattle.evaluation.specs.Table.{rowWidth, rangeWidth, rowsIn, tableAfter, rangesAfter}
-use Rattle.evaluation.specs.Work.{rowCount, answeredRanges, Worked, rowAnswer, worked}
+use Rattle.evaluation.specs.Ranges.{ownRanges}
+use Rattle.evaluation.specs.Work.{rowCount, Worked, rowAnswer, worked}
 use Rattle.evaluation.proofs.FieldBits.{NaturalCast, cast-natural}
 use Rattle.evaluation.proofs.RowLines.{rows-few, squares-few, step-of-row}
 use Rattle.evaluation.proofs.StepAnswers as answers
@@ -59,7 +60,7 @@ so-far : (c : tie.At-loop Inv-loop μ-loop) → rowWidth * c .loop .i ≤ length
 so-far c = room (start c) (c .loop .i) (c .loop .inv .0)
 
 kept : (c : tie.At-loop Inv-loop μ-loop) → length (c .loop .table) ≡ length (start c .args .table .now)
-kept c = length-kept (c .loop .inv .1) (so-far c)
+kept c = length-kept (c .loop .inv .1 .into) (so-far c)
 
 ranges-so-far : (c : tie.At-loop Inv-loop μ-loop) → rangeWidth * c .loop .i ≤ length (start c .args .ranges .now)
 ranges-so-far c = range-room (start c) (c .loop .i) (c .loop .inv .0)
@@ -171,7 +172,7 @@ step-answer-requires c κs =
     let s = start l in
     let w = l .loop .inv .1 in (
       (omega (arith, squares-cast s .is, squares-few (s .args .t1) (s .pre .0 .0)), owned (e .before), step-passed e),
-      (rows-within w (so-far l), ranges-of w (s .pre .0 .0) (ranges-so-far l), operands w (l .loop .inv .2) (omega (arith, owned (e .before)))),
+      (rows-within (w .into) (so-far l), ranges-of w (s .pre .0 .0) (ranges-so-far l), operands (w .into) (l .loop .inv .2) (omega (arith, owned (e .before)))),
     )
 
 status-number-requires : tie.Need-status-number-requires Inv-loop μ-loop
@@ -195,8 +196,8 @@ returns c =
     let q = worked-refused (l .loop .inv .1) (answer j) (s .args .rows) (j .before .loop-test .taken) (λ z. omega (arith, e, c .if2 .taken)) in (
       ap (λ k. refusal k (l .loop .i + 1)) e ∙ ap (λ v. v .refusal) (sym q),
       (
-        l .loop .inv .1 .left ∙ ap (λ v. tableAfter (v .rows) (s .args .table .now)) (sym q),
-        l .loop .inv .1 .told ∙ ap (λ v. rangesAfter (answeredRanges (s .args .t1) (v .rows)) (s .args .ranges .now)) (sym q),
+        l .loop .inv .1 .into .left ∙ ap (λ v. tableAfter (v .rows) (s .args .table .now)) (sym q),
+        l .loop .inv .1 .own ∙ ap (λ v. rangesAfter (ownRanges (s .args .t1) (v .rows)) (s .args .ranges .now)) (sym q),
       ),
     )
 
@@ -252,10 +253,10 @@ returns-2 c =
     let w = l .loop .inv .1 in
     let all : l .loop .i ≡ s .args .rows = omega (arith, l .loop .inv .0, c .loop-test .left) in
     let work : ℕ → Worked = worked (s .args .t1) in (
-      sym (accepted-so-far w) ∙ ap (λ n. work n .refusal) all,
+      sym (accepted-so-far (w .into)) ∙ ap (λ n. work n .refusal) all,
       (
-        w .left ∙ ap (λ n. tableAfter (work n .rows) (s .args .table .now)) all,
-        w .told ∙ ap (λ n. rangesAfter (answeredRanges (s .args .t1) (work n .rows)) (s .args .ranges .now)) all,
+        w .into .left ∙ ap (λ n. tableAfter (work n .rows) (s .args .table .now)) all,
+        w .own ∙ ap (λ n. rangesAfter (ownRanges (s .args .t1) (work n .rows)) (s .args .ranges .now)) all,
       ),
     )
 

@@ -1,9 +1,8 @@
--- `nearest_quotient_4096` meets its contract: a shift is the division rounded down, case by case; a number of halves leaves room for one more.
-use mathlib.Core.Path.{_≡_, refl, ap, _∙_}
+-- `nearest_quotient_4096` meets its contract: a shift is the division rounded down; a number of halves leaves room for one more.
+use mathlib.Core.Path.{_≡_, ap, _∙_}
 use mathlib.Core.Logic.{_≢_}
-use Prim.Native.Nat.{ℕ}
 use native.Mathlib.Omega.{arith}
-use lib.IntN.{ℤ, pos, negsuc, natAbs, _+ℤ_}
+use lib.IntN.{ℤ, pos, natAbs, _+ℤ_}
 use lib.Signed.{shrZ, mag-shr}
 use mir.Syntax.{w64}
 use mir.Val.{SFits}
@@ -11,15 +10,10 @@ use mir.ValLaws.{toZ-ofZ, sfits-le}
 use Rattle.integer.specs.Floor.{floorQuotient}
 use Rattle.integer.specs.Nearest.{nearestQuotient}
 use Rattle.integer.proofs.Absolute.{natAbs-add, natAbs-of-fits, fits-of-natAbs}
-use Rattle.integer.proofs.Floor.{natAbs-quotient-product}
+use Rattle.integer.proofs.Floor.{natAbs-quotient-product, shift-is-floor}
 use Rattle.integer.proofs.NearestLaws.{nearest-by-halves}
 use Rattle.integer.proofs.division.nearest_quotient_4096.Statement.{statement}
 use Rattle.integer.proofs.division.nearest_quotient_4096.Tie as tie
-
-shift-is-floor : (a : ℤ) (m : ℕ) → shrZ a m ≡ floorQuotient a (pos m)
-unfolding floorQuotient
-shift-is-floor (pos n) m = refl
-shift-is-floor (negsuc n) m = refl
 
 halves-fit : (a : ℤ) → SFits w64 a → SFits w64 (shrZ a 2048)
 halves-fit a f = sfits-le (mag-shr a 2048) f

@@ -1,0 +1,3 @@
+pub mod Sizes
+pub mod Holds
+pub mod RootHolds
