@@ -61,6 +61,8 @@ APART = {
     "values-told": "values_told_lem",
     "within-limit": "within_limit_lem",
 }
+# Names of the library, which have its spelling.
+KEPT = set("get_or-eq_default le-leb length-replicate mul-zero to_z-of_z zero-add".split())
 # Words of the library that its own respelling has turned.
 LIBRARY = [("getD", "get_or"), ("natAbs", "nat_abs"), ("get_d", "get_or")]
 
@@ -117,7 +119,7 @@ def declared():
 
 def turned(names, bound):
     every = set(names) | bound
-    return {n: respelled(n) for n in every if respelled(n) != n and not n.startswith(("tie", "Need-")) and re.search(r"[^\W\d]", n)}
+    return {n: respelled(n) for n in every if n not in KEPT and respelled(n) != n and not n.startswith(("tie", "Need-")) and re.search(r"[^\W\d]", n)}
 
 
 def clash(names, bound, turn):

@@ -2,7 +2,7 @@
 use mathlib.Core.Path.{ap}
 use mathlib.Core.Logic.{◌≢◌}
 use Prim.Native.Nat.{ℕ, suc, ◌+◌, ◌*◌, ◌^◌, ◌≤◌, ◌<◌}
-use native.Mathlib.Nat.{mul_assoc, add-mul, mul-lt-mul_of_pos_left, mul_zero, lt_of_mul-lt-mul_right}
+use native.Mathlib.Nat.{mul_assoc, add-mul, mul-lt-mul_of_pos_left, mul-zero, lt_of_mul-lt-mul_right}
 use native.Mathlib.Omega.{arith}
 use lib.IntN.{ℤ, pos, neg_ℤ, nat_abs, ◌+ℤ◌, ◌*ℤ◌}
 use mir.Syntax.{w64}
@@ -14,7 +14,7 @@ use Rattle.affine.specs.Limits.{unit_squared}
 use Rattle.affine.specs.Reciprocal.{slope}
 
 product_positive : {m n : ℕ} → 0 < m → 0 < n → 0 < m * n
-product_positive {m} {n} p q = rw mul_zero at (mul-lt-mul_of_pos_left {m = 0} {n = n} {k = m} q p)
+product_positive {m} {n} p q = rw mul-zero at (mul-lt-mul_of_pos_left {m = 0} {n = n} {k = m} q p)
 
 pub not_zero : (c : ℤ) → 0 < nat_abs c → c ≢ pos 0
 not_zero c h e = let z = ap nat_abs e in omega arith

@@ -2,12 +2,12 @@
 use mathlib.Core.Path.{◌≡◌, refl, sym, ap, ◌∙◌}
 use mathlib.Core.List.{List}
 use Prim.Native.Nat.{ℕ, suc, ◌+◌, ◌≤◌, ◌<◌}
-use native.Mathlib.Nat.{add-zero, zero_add, add_assoc}
+use native.Mathlib.Nat.{add-zero, zero-add, add_assoc}
 use native.Mathlib.Omega.{arith}
 use lib.Dec.{leb}
 use lib.IntN.{ℤ, nat_abs}
 use lib.ListN.{length, take}
-use borrow.Author.Tests.{le_leb, lt-leb, leb-true, leb-false}
+use borrow.Author.Tests.{le-leb, lt-leb, leb-true, leb-false}
 use Rattle.integer.specs.Sum.{sum_abs}
 use Rattle.integer.proofs.Sum.{sum_abs_more}
 use Rattle.affine.specs.Limits.{span_limit}
@@ -18,7 +18,7 @@ use Rattle.affine.proofs.SumLaws.{sum_abs_all}
 
 pub capped_below : (n : ℕ) → n ≤ span_limit → capped n ≡ n
 unfolding capped
-capped_below n h = simp (le_leb n span_limit h)
+capped_below n h = simp (le-leb n span_limit h)
 
 pub capped_above : (n : ℕ) → span_limit < n → capped n ≡ suc span_limit
 unfolding capped
@@ -49,7 +49,7 @@ capped_test n =
 -- three parts, stopped after each
 pub capped_parts : (a b c : ℕ) → leb (capped (capped (capped (0 + a) + b) + c)) span_limit ≡ leb (a + (b + c)) span_limit
 capped_parts a b c =
-    rw (zero_add a, capped_add a b, capped_add (a + b) c, capped_test (a + b + c), add_assoc a b c)
+    rw (zero-add a, capped_add a b, capped_add (a + b) c, capped_test (a + b + c), add_assoc a b c)
 
 -- ---- a loop that sums the absolute values of n numbers so: its sum after i of them
 pub record Capped (n : ℕ) (xs : List ℤ) (start i total : ℕ) : Type 0 where

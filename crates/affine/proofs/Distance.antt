@@ -5,7 +5,7 @@ use mathlib.Core.Logic.{◌⊎◌, inl, inr}
 use mathlib.Core.Bool.{Bool, true, false}
 use Prim.Native.Nat.{ℕ, zero, suc, ◌+◌, ◌<◌}
 use native.Mathlib.Omega.{arith}
-use borrow.Author.Tests.{ltb-true, ltb-false, le_leb, lt-leb, lt-ltb}
+use borrow.Author.Tests.{ltb-true, ltb-false, le-leb, lt-leb, lt-ltb}
 use lib.Dec.{T, leb-zero}
 use lib.IntN.{ℤ, pos, negsuc, neg_ℤ, nat_abs, ◌+ℤ◌, ◌-ℤ◌}
 use lib.Signed.{lt_z, le_z}
@@ -31,10 +31,10 @@ above_not_below (negsuc m) (pos n) e = refl
 above_not_below (negsuc m) (negsuc n) e = lt-leb m n (ltb-true n m e)
 
 not_above_below : (a b : ℤ) → lt_z a b ≡ false → le_z b a ≡ true
-not_above_below (pos m) (pos n) e = le_leb n m (ltb-false m n e)
+not_above_below (pos m) (pos n) e = le-leb n m (ltb-false m n e)
 not_above_below (pos m) (negsuc n) e = refl
 not_above_below (negsuc m) (pos n) e = absurd (let z : ◌≡◌ {A = ℕ} 0 1 = cc in omega arith)
-not_above_below (negsuc m) (negsuc n) e = le_leb m n (ltb-false n m e)
+not_above_below (negsuc m) (negsuc n) e = le-leb m n (ltb-false n m e)
 
 -- an end on either side is not 0
 pub some_above : (z : ℤ) → lt_z (pos 0) z ≡ true → 0 < nat_abs z

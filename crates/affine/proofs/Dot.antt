@@ -6,7 +6,7 @@ use Rattle.integer.proofs.Sum.{dot}
 use Rattle.affine.specs.Lists.{tabulate}
 
 module _ (𝓡 : CommutativeRing) where
-  open 𝓡 use {Carrier as C, eq as ◌~◌, add as ◌⊹◌, mul as ◌·◌, whole, eq_refl as rfl, eq_sym as sy, eq_trans as ◌⨟◌, add_cong, mul_cong, zero_add as z-add, whole_add, whole_mul}
+  open 𝓡 use {Carrier as C, eq as ◌~◌, add as ◌⊹◌, mul as ◌·◌, whole, eq_refl as rfl, eq_sym as sy, eq_trans as ◌⨟◌, add_cong, mul_cong, zero-add as z-add, whole_add, whole_mul}
 
   infix 4 ◌~◌
   infixr 3 ◌⨟◌

@@ -5,7 +5,7 @@ use mathlib.Core.Logic.{◌⊎◌, inl, inr}
 use Prim.Native.Nat.{ℕ, ◌+◌, ◌*◌, ◌≤◌, ◌<◌}
 use native.Mathlib.Omega.{arith}
 use lib.IntN.{ℤ, pos, neg_ℤ, nat_abs, ◌+ℤ◌, ◌-ℤ◌, ◌*ℤ◌}
-use lib.ListN.{replicate, length_replicate, get_or-replicate}
+use lib.ListN.{replicate, length-replicate, get_or-replicate}
 use lib.Signed.{◌≤ℤ◌}
 use mir.Syntax.{w64}
 use mir.Val.{SFits}
@@ -55,7 +55,7 @@ module _ (own : ℕ) (low high : ℤ) (h : own < symbols) where
       let none : at (replicate symbols (pos 0)) own ≡ pos 0 = get_or-replicate symbols own (pos 0) (pos 0) h in
       omega (
         arith,
-        sum_abs_set_zero (replicate symbols (pos 0)) own (high -ℤ input_centre low high) (omega (arith, length_replicate symbols (pos 0))) none,
+        sum_abs_set_zero (replicate symbols (pos 0)) own (high -ℤ input_centre low high) (omega (arith, length-replicate symbols (pos 0))) none,
         sum_abs_zeros symbols,
         sum_abs_zeros pairs,
       )

@@ -6,7 +6,7 @@ use native.Mathlib.Omega.{arith}
 use lib.IntN.{ℤ, pos}
 use mir.Syntax.{w64}
 use mir.Val.{SFits, to_z, of_z}
-use mir.ValLaws.{to_z_of_z}
+use mir.ValLaws.{to_z-of_z}
 use Rattle.affine.specs.declared.Row.{Row}
 use Rattle.affine.specs.Row.{row_of_parts, span}
 
@@ -42,10 +42,10 @@ module _ (r : LentRows) where
   read_y = row_of_parts (to_z w64 (of_z w64 r.d)) r.b r.q
 
   x_is : read_x ≡ given_x
-  x_is = ap (λ c. row_of_parts c r.a r.p) (to_z_of_z w64 r.c r.c_fits)
+  x_is = ap (λ c. row_of_parts c r.a r.p) (to_z-of_z w64 r.c r.c_fits)
 
   y_is : read_y ≡ given_y
-  y_is = ap (λ d. row_of_parts d r.b r.q) (to_z_of_z w64 r.d r.d_fits)
+  y_is = ap (λ d. row_of_parts d r.b r.q) (to_z-of_z w64 r.d r.d_fits)
 
   pub read_x_within : {n : ℕ} → span given_x ≤ n → span read_x ≤ n
   read_x_within {n} = subst (λ x. span x ≤ n) (sym x_is)

@@ -6,7 +6,7 @@ use mathlib.Core.List.{List, [], ◌∷◌, ◌++◌, map, map-append}
 use Prim.Native.Nat.{ℕ, zero, suc, ◌+◌, ◌≤◌, ◌<◌}
 use native.Mathlib.Nat.{le_of_suc-le-suc, not-suc-le-zero}
 use native.Mathlib.Omega.{arith}
-use borrow.Author.Tests.{leb-true, le_leb}
+use borrow.Author.Tests.{leb-true, le-leb}
 use lib.Dec.{leb}
 use lib.ListN.{length, get_or, length-append}
 use Rattle.affine.specs.Lists.{tabulate}
@@ -80,4 +80,4 @@ over_pairs_all (suc n) f h (suc k) =
 pub first_le_second : (n k : ℕ) → k < pair_count n → get_or (firsts n) k 0 ≤ get_or (seconds n) k 0
 first_le_second n k h =
     leb-true (get_or (firsts n) k 0) (get_or (seconds n) k 0)
-    (sym (get_or_over_pairs n leb true k h) ∙ over_pairs_all n leb (λ i j l. le_leb i j l) k)
+    (sym (get_or_over_pairs n leb true k h) ∙ over_pairs_all n leb (λ i j l. le-leb i j l) k)

@@ -25,12 +25,12 @@ use Rattle.affine.proofs.Enclosure.{candidate_shaped, candidate_uses}
 use Rattle.affine.proofs.InputRow.{centre_below_middle}
 
 -- ---- a row's numbers
-pub length_replicate : (n : ℕ) → length (replicate n (pos 0)) ≡ n
-length_replicate zero = refl
-length_replicate (suc n) = ap suc (length_replicate n)
+pub length-replicate : (n : ℕ) → length (replicate n (pos 0)) ≡ n
+length-replicate zero = refl
+length-replicate (suc n) = ap suc (length-replicate n)
 
 pub constant_shaped : (v : ℤ) → Shaped (constant_row v)
-constant_shaped v = record { linear = length_replicate symbols; pair = length_replicate pairs }
+constant_shaped v = record { linear = length-replicate symbols; pair = length-replicate pairs }
 
 pub with_own_shaped : (own : ℕ) (v : ℤ) (r : Row) → Shaped r → Shaped (with_own own v r)
 with_own_shaped own v r h = record { linear = length-set r.linear own v ∙ h.linear; pair = h.pair }

@@ -5,7 +5,7 @@ use mathlib.Core.List.{List}
 use Prim.Native.Nat.{ℕ, ◌-◌, ◌*◌, ◌≤◌, min, max}
 use native.Mathlib.Nat.{min-eq_left, min-eq_right, max-eq_left, max-eq_right}
 use native.Mathlib.Omega.{arith}
-use borrow.Author.Tests.{eq-eqb, ne_eqb, eqb-true, le_leb, leb-true}
+use borrow.Author.Tests.{eq-eqb, ne_eqb, eqb-true, le-leb, leb-true}
 use lib.Dec.{T, eqb, leb}
 use lib.IntN.{ℤ}
 use lib.ListN.{length}
@@ -196,19 +196,19 @@ test_passed {a} {b} h = by_test (le_z a b) h.le
 -- ---- rows within the span limit, and ranges of which no low is above its high: none of them is refused
 module _ (table : List ℤ) (count : ℕ) (few : count ≤ symbols) (within : RowsWithin table count) where
   lent_answered : (row : ℕ) → 1 ≤ row → row ≤ count → lent_row table row ≡ accepted
-  lent_answered row l h = simp (le_leb (span (row_at table (row - 1))) span_limit (within.spans (row - 1) (omega arith)))
+  lent_answered row l h = simp (le-leb (span (row_at table (row - 1))) span_limit (within.spans (row - 1) (omega arith)))
 
   pub row_answered : (row : ℕ) → 1 ≤ row → row ≤ count → row_refusal table count row ≡ accepted
   unfolding row_refusal
   row_answered row l h =
-      simp (le_leb 1 row l, le_leb row count h, le_leb count symbols few, le_leb (row_width * count) (length table) within.room) (lent_answered row l h)
+      simp (le-leb 1 row l, le-leb row count h, le-leb count symbols few, le-leb (row_width * count) (length table) within.room) (lent_answered row l h)
 
   rows_answered : (first second : ℕ) → 1 ≤ first → first ≤ second → second ≤ count → rows_refusal table count first second ≡ accepted
   unfolding rows_refusal
   rows_answered first second l m h =
       let q = lent_answered first l (omega arith) in
       let r = lent_answered second (omega arith) h in
-      simp (le_leb 1 first l, le_leb first count (omega arith), le_leb 1 second (omega arith), le_leb second count h, le_leb count symbols few, le_leb (row_width * count) (length table) within.room)
+      simp (le-leb 1 first l, le-leb first count (omega arith), le-leb 1 second (omega arith), le-leb second count h, le-leb count symbols few, le-leb (row_width * count) (length table) within.room)
       (sym (lower_first table m) ∙ ap₂ or_else q r)
 
   -- what is told of them
@@ -218,7 +218,7 @@ module _ (table : List ℤ) (count : ℕ) (few : count ≤ symbols) (within : Ro
     range_answered row l h =
         let q = lent_answered row l h in
         let r : lent_range ranges row ≡ accepted = ap (λ (b : Bool). pick b accepted (refusal 6 row)) (test_passed (ordered.ordered (row - 1) (omega arith))) in
-        simp (le_leb 1 row l, le_leb row count h, le_leb count symbols few, le_leb (row_width * count) (length table) within.room, le_leb (range_width * count) (length ranges) ordered.room)
+        simp (le-leb 1 row l, le-leb row count h, le-leb count symbols few, le-leb (row_width * count) (length table) within.room, le-leb (range_width * count) (length ranges) ordered.room)
         (ap₂ or_else q r)
 
     pub range_told_of : (row : ℕ) → 1 ≤ row → row ≤ count → range_of table ranges count row ≡ range_told (range_at ranges (row - 1))

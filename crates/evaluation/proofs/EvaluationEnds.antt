@@ -2,7 +2,7 @@
 use mathlib.Core.Path.{◌≡◌}
 use mathlib.Core.List.{List, []}
 use Prim.Native.Nat.{◌*◌, ◌≤◌, ◌<◌}
-use borrow.Author.Tests.{eq-eqb, ne_eqb, le_leb, lt-leb}
+use borrow.Author.Tests.{eq-eqb, ne_eqb, le-leb, lt-leb}
 use lib.IntN.{ℤ}
 use lib.ListN.{length}
 use Rattle.affine.specs.Lists.{tabulate}
@@ -38,8 +38,8 @@ module _ (c : Schedule) (table ranges : List ℤ) where
   module _ (e : (test_of c).number ≡ 0) (h : row_width * row_count c ≤ length table) where
     pub ends_short_ranges : length ranges < range_width * row_count c → evaluated c table ranges ≡ stopped [] table_too_short
     unfolding evaluated
-    ends_short_ranges k = rw (eq-eqb _ 0 e, le_leb _ _ h, lt-leb _ _ k)
+    ends_short_ranges k = rw (eq-eqb _ 0 e, le-leb _ _ h, lt-leb _ _ k)
 
     pub ends_worked : range_width * row_count c ≤ length ranges → evaluated c table ranges ≡ worked c (row_count c)
     unfolding evaluated
-    ends_worked k = rw (eq-eqb _ 0 e, le_leb _ _ h, le_leb _ _ k)
+    ends_worked k = rw (eq-eqb _ 0 e, le-leb _ _ h, le-leb _ _ k)

@@ -9,7 +9,7 @@ use lib.IntN.{ℤ, pos, negsuc, nat_abs}
 use lib.Signed.{non_neg, lt_z}
 use mir.Syntax.{w64}
 use mir.Val.{Fits, SFits, to_z, of_z}
-use mir.ValLaws.{to_z_of_z}
+use mir.ValLaws.{to_z-of_z}
 use Rattle.sheet.specs.Lines.{natural}
 use Rattle.sheet.proofs.Passing.{Natural}
 
@@ -18,7 +18,7 @@ pub record NaturalCast (z : ℤ) : Type 0 where
   pub is : nat_abs (to_z w64 (of_z w64 z)) ≡ natural z
 
 pub cast_natural : {a b : ℕ} {z : ℤ} → Natural a b z → SFits w64 z → NaturalCast z
-cast_natural {a} {b} {z} h f = by_sign z f (to_z_of_z w64 z f) h.is
+cast_natural {a} {b} {z} h f = by_sign z f (to_z-of_z w64 z f) h.is
   where
     by_sign : (z : ℤ) → SFits w64 z → to_z w64 (of_z w64 z) ≡ z → z ≡ pos (natural z) → NaturalCast z
     by_sign (pos n) f e q = record { fits = rw e (tt, record { fits = omega (arith, f.sfits) }); is = rw e }
@@ -40,14 +40,14 @@ number_is_not {z} {n} f h t q = t (by_sign z f q)
     by_sign (negsuc m) f e = absurd (omega arith)
 
 pub number_above : {z : ℤ} {n : ℕ} → SFits w64 z → lt_z (pos n) (to_z w64 (of_z w64 z)) ≡ true → n < natural z
-number_above {z} {n} f t = by_sign z (rw (to_z_of_z w64 z f) at t)
+number_above {z} {n} f t = by_sign z (rw (to_z-of_z w64 z f) at t)
   where
     by_sign : (z : ℤ) → lt_z (pos n) z ≡ true → n < natural z
     by_sign (pos m) e = ltb-true n m e
     by_sign (negsuc m) e = absurd (let y : ◌≡◌ {A = ℕ} 0 1 = cc in omega arith)
 
 pub number_not_above : {z : ℤ} {n : ℕ} → SFits w64 z → lt_z (pos n) (to_z w64 (of_z w64 z)) ≡ false → natural z ≤ n
-number_not_above {z} {n} f t = by_sign z (rw (to_z_of_z w64 z f) at t)
+number_not_above {z} {n} f t = by_sign z (rw (to_z-of_z w64 z f) at t)
   where
     by_sign : (z : ℤ) → lt_z (pos n) z ≡ false → natural z ≤ n
     by_sign (pos m) e = ltb-false n m e

@@ -4,7 +4,7 @@ use mathlib.Core.Path.{◌≡◌, sym, ap, ap₂, ◌∙◌, subst}
 use mathlib.Core.List.{List}
 use Prim.Native.Nat.{ℕ, ◌-◌, ◌≤◌, ◌<◌}
 use native.Mathlib.Omega.{arith}
-use borrow.Author.Tests.{ne_eqb, le_leb, lt-leb}
+use borrow.Author.Tests.{ne_eqb, le-leb, lt-leb}
 use lib.IntN.{ℤ, pos}
 use lib.ListN.{length, get_or}
 use Rattle.affine.specs.declared.Row.{Row}
@@ -95,7 +95,7 @@ module _ (squares : ℕ) (table ranges : List ℤ) (n : ℕ) (t : Step) where
       q
       ∙ ap (λ m. binary_answer squares m t.code x y) (sym (length_rows_in table n))
       ∙ ap₂ (binary_answer squares (length (rows_in table n)) t.code) first second
-      ∙ rw (ne_eqb _ 1 not_constant, le_leb (natural t.code) last_binary binary)
+      ∙ rw (ne_eqb _ 1 not_constant, le-leb (natural t.code) last_binary binary)
 
 -- the answer, by the row's line
 module _ (c : Schedule) (table ranges : List ℤ) (n : ℕ) where

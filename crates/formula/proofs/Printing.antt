@@ -2,7 +2,7 @@
 use mathlib.Core.Path.{◌≡◌, sym, ap, ◌∙◌}
 use mathlib.Core.List.{List}
 use Prim.Native.Nat.{ℕ, ◌≤◌, ◌<◌}
-use native.Mathlib.Nat.{zero_add}
+use native.Mathlib.Nat.{zero-add}
 use native.Mathlib.Omega.{arith}
 use borrow.Author.Tests.{eq-eqb, ne_eqb}
 use lib.ListN.{length, take}
@@ -44,7 +44,7 @@ wrote_sheet : (c : Schedule) (before after : List ℕ) (w : WriteAnswer) → (te
 wrote_sheet c before after w passes room h =
     let d = write_done c before passes room in
     record {
-      ends = ap (λ (a : WriteAnswer). a.length) (h.answers ∙ sym d.0) ∙ sym (zero_add (length (sheet_text c)));
+      ends = ap (λ (a : WriteAnswer). a.length) (h.answers ∙ sym d.0) ∙ sym (zero-add (length (sheet_text c)));
       is = h.leaves ∙ sym d.1;
     }
 

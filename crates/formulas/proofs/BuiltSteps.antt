@@ -5,7 +5,7 @@ use Prim.Native.Nat.{ℕ, zero, suc, ◌+◌, ◌*◌, ◌≤◌}
 use native.Mathlib.Decide.{dec_lt}
 use native.Mathlib.Omega.{arith}
 use lib.IntN.{ℤ, pos}
-use lib.ListN.{length, drop, get_or, replicate, length_replicate, get_or_eq_default}
+use lib.ListN.{length, drop, get_or, replicate, length-replicate, get_or-eq_default}
 use lib.Seq.{sets, sets-eq, ext_get_or, get_or-drop}
 use Rattle.sheet.specs.Limits.{max_steps}
 use Rattle.sheet.specs.Lines.{item, zero_step}
@@ -34,14 +34,14 @@ step_in_lem (t ∷ ts) rest z (suc i) =
 
 length_up_to : (room n : ℕ) (f : ℕ → Step) → n ≤ room → length (up_to room n f zero_step) ≡ room
 unfolding up_to
-length_up_to room zero f h = length_replicate room zero_step
+length_up_to room zero f h = length-replicate room zero_step
 length_up_to zero (suc n) f h = absurd (omega arith)
 length_up_to (suc room) (suc n) f h = ap suc (length_up_to room n (λ i. f (suc i)) (omega arith))
 
 held : (steps : List Step) (i : ℕ) → length steps ≤ max_steps → get_or (up_to max_steps (length steps) (λ j. get_or steps j zero_step) zero_step) i zero_step ≡ get_or steps i zero_step
 held steps i h = elim (dec_lt i (length steps)) [
   | yes l ↦ up_to_within max_steps (length steps) i (λ j. get_or steps j zero_step) zero_step h l
-  | no l ↦ up_to_beyond max_steps (length steps) i (λ j. get_or steps j zero_step) zero_step (omega arith) ∙ sym (get_or_eq_default steps zero_step {n = i} (omega arith))
+  | no l ↦ up_to_beyond max_steps (length steps) i (λ j. get_or steps j zero_step) zero_step (omega arith) ∙ sym (get_or-eq_default steps zero_step {n = i} (omega arith))
 ]
 
 pub steps_read : (steps : List Step) → length steps ≤ max_steps

@@ -3,7 +3,7 @@ use mathlib.Core.Path.{◌≡◌, refl, sym, subst}
 use mathlib.Core.Bool.{false}
 use Prim.Native.Nat.{ℕ, ◌+◌, ◌-◌, ◌≤◌, ◌<◌}
 use native.Mathlib.Omega.{arith}
-use borrow.Author.Tests.{lt-ltb, le-ltb, le_leb, lt-leb, ne_eqb, eqb-true, ltb-true, ltb-false}
+use borrow.Author.Tests.{lt-ltb, le-ltb, le-leb, lt-leb, ne_eqb, eqb-true, ltb-true, ltb-false}
 use lib.Dec.{eqb, ltb, lit<, lit≤, leb}
 use Rattle.sheet.specs.Number.{digit_of}
 use Rattle.sheet.proofs.Choice.{pick_elim}
@@ -15,7 +15,7 @@ use Rattle.formulas.specs.declared.Token.{Token}
 use Rattle.formulas.specs.declared.Token.TheVariants.{Digit, Letter, Operator, Opening, Closing, Other}
 
 pub digit_of_lem : (d : ℕ) → d < 10 → digit_of (48 + d) ≡ d
-digit_of_lem d h = simp (le-ltb (48 + d) 48 (omega arith), le_leb (48 + d) 57 (omega arith)) (omega arith)
+digit_of_lem d h = simp (le-ltb (48 + d) 48 (omega arith), le-leb (48 + d) 57 (omega arith)) (omega arith)
 
 pub letter_no_digit : (i : ℕ) → 10 ≤ digit_of (97 + i)
 letter_no_digit i = simp (le-ltb (97 + i) 48 (omega arith), lt-leb (97 + i) 57 (omega arith)) (lit≤ tt)

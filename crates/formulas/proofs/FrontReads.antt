@@ -7,7 +7,7 @@ use Prim.Native.Nat.{ℕ, suc, ◌≤◌, ◌<◌}
 use native.Mathlib.Decide.{dec_le}
 use native.Mathlib.Nat.{add-zero}
 use native.Mathlib.Omega.{arith}
-use borrow.Author.Tests.{le_leb, lt-leb, lt-ltb, le-ltb}
+use borrow.Author.Tests.{le-leb, lt-leb, lt-ltb, le-ltb}
 use lib.ListN.{length, take}
 use lib.Seq.{take_all}
 use lib.IntN.{ℤ}
@@ -30,7 +30,7 @@ pub record FrontLength (n : ℕ) : Type 0 where
 pub front_length_lem : (n : ℕ) → FrontLength n
 front_length_lem n = elim (dec_le n max_text) [
   | yes h ↦
-      let e : front_length n ≡ n = simp (le_leb n max_text h) in
+      let e : front_length n ≡ n = simp (le-leb n max_text h) in
       record { few = omega arith; within = omega arith; all = λ _. e; cut = λ l. absurd (omega arith) }
   | no h ↦
       let e : front_length n ≡ max_text = simp (lt-leb n max_text (omega arith)) in

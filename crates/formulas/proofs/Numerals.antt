@@ -3,7 +3,7 @@ use mathlib.Core.Path.{◌≡◌, refl, sym, ◌∙◌}
 use mathlib.Core.Bool.{true}
 use mathlib.Core.List.{List, [], ◌∷◌, ◌++◌, append_assoc}
 use Prim.Native.Nat.{ℕ, suc, ◌+◌, ◌*◌, ◌≤◌, ◌<◌}
-use native.Mathlib.Nat.{zero_add}
+use native.Mathlib.Nat.{zero-add}
 use native.Mathlib.Numerals.{add-one}
 use native.Mathlib.Omega.{arith}
 use borrow.Author.Tests.{lt-ltb, le-ltb, ltb-true}
@@ -46,7 +46,7 @@ front_stops v (b ∷ bs) h = rw (le-ltb (digit_of b) 10 h)
 
 pub front_value_lem : {s : List ℕ} {v : ℕ} → Numeral s v → (rest : List ℕ) → 10 ≤ digit_of (get_or rest 0 0) → front_value 0 (s ++ rest) ≡ v
 front_value_lem {v} x rest h =
-    through_digits (front_value 0) (λ n w. front_value w) (λ d l g. rw zero_add at (front_digit 0 d l g)) (λ n w d l p. front_digit w d l) x rest
+    through_digits (front_value 0) (λ n w. front_value w) (λ d l g. rw zero-add at (front_digit 0 d l g)) (λ n w d l p. front_digit w d l) x rest
     ∙ front_stops v rest h
 
 -- ---- the capped value

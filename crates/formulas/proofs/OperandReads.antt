@@ -10,7 +10,7 @@ use native.Mathlib.Omega.{arith}
 use borrow.Author.Tests.{lt-ltb, le-ltb, eqb-true}
 use lib.Dec.{eqb, lit≤}
 use lib.IntN.{ℤ}
-use lib.ListN.{length, drop, get_or, drop_of_length-le, get_or_eq_default}
+use lib.ListN.{length, drop, get_or, drop_of_length-le, get_or-eq_default}
 use lib.Seq.{sets}
 use Rattle.sheet.specs.Limits.{end_limit}
 use Rattle.sheet.specs.Lines.{step_numbers}
@@ -209,6 +209,6 @@ module _ (bytes : List ℕ) (inputs : ℕ) (before after : List ℤ) (p : Part) 
     pub seen_whole : p.beyond ≡ first_beyond 1 false bytes
     unfolding first_beyond
     seen_whole =
-        let end = get_or_eq_default bytes 0 {n = p.next} h in
+        let end = get_or-eq_default bytes 0 {n = p.next} h in
         let none : found bytes p.beyond p.next ≡ p.beyond = rw (drop_of_length-le bytes h) (pick_elim (λ (x : ℕ). x ≡ p.beyond) (eqb p.beyond 0) 0 p.beyond (λ z. sym (eqb-true p.beyond 0 z)) (λ z. refl)) in
         sym (r.seen (rw end (lit≤ tt)) ∙ none)

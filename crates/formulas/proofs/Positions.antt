@@ -7,7 +7,7 @@ use native.Mathlib.Nat.{add-zero}
 use native.Mathlib.Decide.{dec_lt}
 use native.Mathlib.Omega.{arith}
 use borrow.Author.Tests.{eq-eqb}
-use lib.ListN.{length, drop, get_or, length-drop, drop_of_length-le, get_or_eq_default}
+use lib.ListN.{length, drop, get_or, length-drop, drop_of_length-le, get_or-eq_default}
 use lib.Seq.{drop-cons, get_or-drop}
 use Rattle.sheet.specs.Number.{digit_of}
 use Rattle.formulas.specs.Grammar.{Tree, literal, binary, rank_of}
@@ -107,5 +107,5 @@ module _ (bytes : List ℕ) (inputs : ℕ) where
   unfolding token_of mark_of letter_of
   inside p e n = elim (dec_lt p (length bytes)) [
     | yes h ↦ h
-    | no h ↦ absurd (subst IsReal (sym e ∙ ap (token_of inputs) (get_or_eq_default bytes 0 {n = p} (omega arith))) n)
+    | no h ↦ absurd (subst IsReal (sym e ∙ ap (token_of inputs) (get_or-eq_default bytes 0 {n = p} (omega arith))) n)
   ]

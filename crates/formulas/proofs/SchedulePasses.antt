@@ -4,7 +4,7 @@ use mathlib.Core.Bool.{true}
 use mathlib.Core.List.{List, [], ◌∷◌}
 use Prim.Native.Nat.{ℕ, suc, ◌+◌, ◌≤◌, ◌<◌}
 use native.Mathlib.Omega.{arith}
-use borrow.Author.Tests.{le_leb, lt-leb}
+use borrow.Author.Tests.{le-leb, lt-leb}
 use lib.IntN.{ℤ, pos}
 use lib.ListN.{get_or}
 use Rattle.sheet.specs.Choice.{pick}
@@ -38,26 +38,26 @@ Passes m t = step_passes m t.code t.first t.second t.value ≡ true
 
 constant_passes : (m v : ℕ) → v ≤ end_limit → Passes m (step_of 1 0 0 v)
 unfolding step_passes
-constant_passes m v h = le_leb v end_limit h
+constant_passes m v h = le-leb v end_limit h
 
 binary_passes : (m code a b : ℕ) → 2 ≤ code → code ≤ last_binary → RowIn a m → RowIn b m → Passes m (step_of code a b 0)
 unfolding step_passes
 binary_passes m code a b h l p q =
     simp (
-      le_leb 1 code (omega arith),
-      le_leb code last_code (omega arith),
-      le_leb 2 code h,
-      le_leb code last_binary l,
+      le-leb 1 code (omega arith),
+      le-leb code last_code (omega arith),
+      le-leb 2 code h,
+      le-leb code last_binary l,
       lt-leb code 1 h,
-      le_leb 1 a p.from,
-      le_leb a m p.to,
-      le_leb 1 b q.from,
-      le_leb b m q.to,
+      le-leb 1 a p.from,
+      le-leb a m p.to,
+      le-leb 1 b q.from,
+      le-leb b m q.to,
     )
 
 reciprocal_passes : (m a : ℕ) → RowIn a m → Passes m (step_of 5 a 0 0)
 unfolding step_passes
-reciprocal_passes m a p = simp (le_leb 1 a p.from, le_leb a m p.to)
+reciprocal_passes m a p = simp (le-leb 1 a p.from, le-leb a m p.to)
 
 sign_passes : (g : Sign) (m a b : ℕ) → RowIn a m → RowIn b m → Each Passes m (sign_steps g m a b)
 sign_passes Plus m a b p q = each_one Passes m (step_of 2 a b 0) (binary_passes m 2 a b (omega arith) (omega arith) p q)
@@ -87,7 +87,7 @@ steps_pass inputs m (binary g a b) h below within =
 -- every count of steps within the limits passes as 1 does
 counts_pass_lem : (inputs squares : ℤ) (n : ℕ) → 1 ≤ n → n ≤ max_steps → counts_pass inputs squares (pos n) ≡ counts_pass inputs squares (pos 1)
 unfolding counts_pass
-counts_pass_lem inputs squares n h l = simp (le_leb 1 n h, le_leb n max_steps l)
+counts_pass_lem inputs squares n h l = simp (le-leb 1 n h, le-leb n max_steps l)
 
 -- ---- the schedule
 

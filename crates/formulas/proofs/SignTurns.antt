@@ -9,7 +9,7 @@ use native.Mathlib.Decide.{dec_lt}
 use native.Mathlib.Omega.{arith}
 use lib.Dec.{eqb, leb}
 use lib.IntN.{ℤ}
-use lib.ListN.{length, drop, get_or, get_or_eq_default}
+use lib.ListN.{length, drop, get_or, get_or-eq_default}
 use lib.Seq.{sets}
 use borrow.Author.Tests.{eqb-true, leb-true, leb-false}
 use Rattle.sheet.specs.Number.{digit_of}
@@ -210,7 +210,7 @@ no_rank b = pick_elim (λ (r : ℕ). r ≡ 0) (leb (byte_rank b) 0) _ _ (λ l. o
 pub sign_inside : (bytes : List ℕ) (p q : ℕ) → byte_rank (get_or bytes p 0) ≡ suc q → p < length bytes
 sign_inside bytes p q e = elim (dec_lt p (length bytes)) [
   | yes h ↦ h
-  | no h ↦ absurd (let z : byte_rank (get_or bytes p 0) ≡ 0 = ap byte_rank (get_or_eq_default bytes 0 {n = p} (omega arith)) in omega (arith, e, z))
+  | no h ↦ absurd (let z : byte_rank (get_or bytes p 0) ≡ 0 = ap byte_rank (get_or-eq_default bytes 0 {n = p} (omega arith)) in omega (arith, e, z))
 ]
 
 -- an operand is a part of every rank

@@ -78,7 +78,7 @@ remains s (H ⊢ (a ≼ b)) c = con (pos (suc s)) ⊗ (b ⊖ a) ⊖ certified H 
 remains s (H ⊢ (a ≋ b)) c = (a ⊖ b) ⊖ certified_zero H c
 
 module _ (𝓞 : OrderedRing) where
-  open 𝓞.ring use {Carrier as C, eq as ◌~◌, add as ◌⊹◌, mul as ◌·◌, minus, whole, eq_refl as rfl, eq_sym as sy, eq_trans as ◌⨟◌, add_cong, mul_cong, mul_comm, zero_add as z-add, zero_mul, whole_add}
+  open 𝓞.ring use {Carrier as C, eq as ◌~◌, add as ◌⊹◌, mul as ◌·◌, minus, whole, eq_refl as rfl, eq_sym as sy, eq_trans as ◌⨟◌, add_cong, mul_cong, mul_comm, zero-add as z-add, zero_mul, whole_add}
   open 𝓞 use {le, nonneg, nonneg_cong, nonneg_add, nonneg_mul, nonneg_square, nonneg_whole, nonneg_cancel, le_of_difference, difference_of_le}
 
   infix 4 ◌~◌

@@ -10,23 +10,23 @@ use lib.IntN.{ℤ, pos, negsuc}
 use lib.Signed.{mag, lt_z, le_z, ◌<ℤ◌, ◌≤ℤ◌, lt_z_yes, lt_z_no, le_z_yes}
 use mir.Syntax.{w64}
 use mir.Val.{SFits, to_z, of_z}
-use mir.ValLaws.{to_z_of_z}
+use mir.ValLaws.{to_z-of_z}
 
 -- of an element read, `back c.x.given`; of a call's result, `back c.f.ok`
 pub back : {z : ℤ} → mag z < 2 ^ 63 → to_z w64 (of_z w64 z) ≡ z
-back {z} l = to_z_of_z w64 z (record { sfits = l })
+back {z} l = to_z-of_z w64 z (record { sfits = l })
 
 -- a number that is another in disguise, one that fits
 pub back_as : {z x : ℤ} → z ≡ x → SFits w64 x → to_z w64 (of_z w64 z) ≡ x
-back_as {z} {x} e f = rw e (to_z_of_z w64 x f)
+back_as {z} {x} e f = rw e (to_z-of_z w64 x f)
 
 -- an operation on two numbers that fit: what the machine asks, and what it gives
 module _ (op : ℤ → ℤ → ℤ) {a b : ℤ} (fa : SFits w64 a) (fb : SFits w64 b) (f : SFits w64 (op a b)) where
   pub operation_fits : SFits w64 (op (to_z w64 (of_z w64 a)) (to_z w64 (of_z w64 b)))
-  operation_fits = rw (to_z_of_z w64 a fa, to_z_of_z w64 b fb) f
+  operation_fits = rw (to_z-of_z w64 a fa, to_z-of_z w64 b fb) f
 
   pub operation_gives : to_z w64 (of_z w64 (op (to_z w64 (of_z w64 a)) (to_z w64 (of_z w64 b)))) ≡ op a b
-  operation_gives = rw (to_z_of_z w64 a fa, to_z_of_z w64 b fb) (to_z_of_z w64 (op a b) f)
+  operation_gives = rw (to_z-of_z w64 a fa, to_z-of_z w64 b fb) (to_z-of_z w64 (op a b) f)
 
 -- ---- tests
 pub <ℤ_of_test : {a b : ℤ} → lt_z a b ≡ true → a <ℤ b

@@ -5,7 +5,7 @@ use mathlib.Core.Path.{◌≡◌, refl, sym, ap, ap₂, subst}
 use mathlib.Core.Bool.{Bool, true, false}
 use mathlib.Core.List.{List, [], ◌∷◌}
 use Prim.Native.Nat.{ℕ, zero, suc, ◌+◌, compare, Ordering}
-use native.Mathlib.Nat.{suc-add, zero_add}
+use native.Mathlib.Nat.{suc-add, zero-add}
 use lib.Dec.{T, eqb, eqb→eq, compare_is_eq}
 use lib.IntN.{ℤ, pos, negsuc, ◌+ℤ◌, ◌*ℤ◌}
 
@@ -27,7 +27,7 @@ pub record CommutativeRing : Type 1 where
   pub mul_assoc : (a b c : Carrier) → eq (mul (mul a b) c) (mul a (mul b c))
   pub mul_comm : (a b : Carrier) → eq (mul a b) (mul b a)
   pub distributive : (a b c : Carrier) → eq (mul (add a b) c) (add (mul a c) (mul b c))
-  pub zero_add : (a : Carrier) → eq (add (whole (pos 0)) a) a
+  pub zero-add : (a : Carrier) → eq (add (whole (pos 0)) a) a
   pub zero_mul : (a : Carrier) → eq (mul (whole (pos 0)) a) (whole (pos 0))
   pub one_mul : (a : Carrier) → eq (mul (whole (pos 1)) a) a
   pub minus_mul : (a : Carrier) → eq (minus a) (mul (whole (negsuc 0)) a)
@@ -154,7 +154,7 @@ module _ (𝓡 : CommutativeRing) where
   infixl 7 ◌·◌
   infix 4 ◌~◌
   infixr 3 ◌⨟◌
-  open 𝓡 use {Carrier as C, eq as ◌~◌, add as ◌⊹◌, mul as ◌·◌, minus, whole, eq_refl as rfl, eq_sym as sy, eq_trans as ◌⨟◌, add_cong, mul_cong, add_assoc, add_comm, mul_assoc, mul_comm, distributive, zero_add as z-add, zero_mul, one_mul, minus_mul, whole_add, whole_mul}
+  open 𝓡 use {Carrier as C, eq as ◌~◌, add as ◌⊹◌, mul as ◌·◌, minus, whole, eq_refl as rfl, eq_sym as sy, eq_trans as ◌⨟◌, add_cong, mul_cong, add_assoc, add_comm, mul_assoc, mul_comm, distributive, zero-add as z-add, zero_mul, one_mul, minus_mul, whole_add, whole_mul}
 
   -- ---- values: a variable past the end of the list is 0
   abbrev pub first : List C → C
@@ -205,8 +205,8 @@ module _ (𝓡 : CommutativeRing) where
   distributive_left : (a b c : C) → a · (b ⊹ c) ~ a · b ⊹ a · c
   distributive_left a b c = mul_comm a (b ⊹ c) ⨟ distributive b c a ⨟ add_cong (mul_comm b a) (mul_comm c a)
 
-  mul_zero : (a : C) → a · whole (pos 0) ~ whole (pos 0)
-  mul_zero a = mul_comm a (whole (pos 0)) ⨟ zero_mul a
+  mul-zero : (a : C) → a · whole (pos 0) ~ whole (pos 0)
+  mul-zero a = mul_comm a (whole (pos 0)) ⨟ zero_mul a
 
   mul_one : (a : C) → a · whole (pos 1) ~ a
   mul_one a = mul_comm a (whole (pos 1)) ⨟ one_mul a
@@ -229,7 +229,7 @@ module _ (𝓡 : CommutativeRing) where
   -- ---- each operation on polynomials has the value that it should have
   power_add : (r : C) (a b : ℕ) → power r (a + b) ~ power r a · power r b
   unfolding power
-  power_add r zero b = path (ap (power r) (zero_add b)) ⨟ sy (one_mul (power r b))
+  power_add r zero b = path (ap (power r) (zero-add b)) ⨟ sy (one_mul (power r b))
   power_add r (suc a) b =
       path (ap (power r) (suc-add a b)) ⨟ mul_cong (rfl r) (power_add r a b) ⨟ sy (mul_assoc r (power r a) (power r b))
 
@@ -275,7 +275,7 @@ module _ (𝓡 : CommutativeRing) where
   mul_term_value : (c : ℤ) (m : List ℕ) (p : Polynomial) (ρ : List C)
       → polynomial_value (mul_term c m p) ρ ~ (whole c · monomial_value m ρ) · polynomial_value p ρ
   unfolding polynomial_value
-  mul_term_value c m nil ρ = sy (mul_zero _)
+  mul_term_value c m nil ρ = sy (mul-zero _)
   mul_term_value c m (term d n p) ρ =
       add_cong (mul_cong (whole_mul c d) (add_exponents_value m n ρ) ⨟ mul_middle _ _ _ _) (mul_term_value c m p ρ)
       ⨟ sy (distributive_left _ _ _)

@@ -4,7 +4,7 @@ use mathlib.Core.Path.{◌≡◌, sym, ◌∙◌, subst}
 use mathlib.Core.List.{List, [], ◌∷◌, ◌++◌, map}
 use mathlib.Core.Logic.{◌≢◌, ◌⊎◌, inl, inr}
 use Prim.Native.Nat.{ℕ, zero, suc, ◌+◌, ◌*◌, ◌≤◌, ◌<◌}
-use native.Mathlib.Nat.{zero_add, suc-add}
+use native.Mathlib.Nat.{zero-add, suc-add}
 use native.Mathlib.Numerals.{add-one}
 use native.Mathlib.Omega.{arith}
 use lib.ListN.{length, get_or, take, set}
@@ -20,7 +20,7 @@ use Rattle.integer.proofs.Fraction.{ring_of_fractions, ≈_refl, +ℚ_cong}
 
 -- ---- sums of absolute values
 pub sum_abs_append : (xs ys : List ℤ) → sum_abs (xs ++ ys) ≡ sum_abs xs + sum_abs ys
-sum_abs_append [] ys = sym (zero_add (sum_abs ys))
+sum_abs_append [] ys = sym (zero-add (sum_abs ys))
 sum_abs_append (x ∷ xs) ys = let h = sum_abs_append xs ys in omega arith
 
 pub sum_abs_add : (xs ys : List ℤ) → sum_abs (add_lists xs ys) ≤ sum_abs xs + sum_abs ys
@@ -50,7 +50,7 @@ sum_abs_take (suc n) (x ∷ xs) = let h = sum_abs_take n xs in omega arith
 
 -- ---- dot products: the coefficients are a list, the values a function of the index
 module _ (𝓡 : CommutativeRing) where
-  open 𝓡 use {Carrier as C, eq as ◌~◌, add as ◌⊹◌, mul as ◌·◌, minus, whole as k, eq_refl as rfl, eq_sym as sy, eq_trans as ◌⨟◌, add_cong, mul_cong, zero_add as z-add, whole_add, whole_mul}
+  open 𝓡 use {Carrier as C, eq as ◌~◌, add as ◌⊹◌, mul as ◌·◌, minus, whole as k, eq_refl as rfl, eq_sym as sy, eq_trans as ◌⨟◌, add_cong, mul_cong, zero-add as z-add, whole_add, whole_mul}
 
   infix 4 ◌~◌
   infixr 3 ◌⨟◌
@@ -109,7 +109,7 @@ module _ (𝓡 : CommutativeRing) where
 
   pub dot_append : (a b : List ℤ) (w : ℕ → C) → dot (a ++ b) w ~ dot a w ⊹ dot b (λ i. w (length a + i))
   unfolding dot
-  dot_append [] b w = dot_cong b (λ i l. subst (λ j. w i ~ w j) (sym (zero_add i)) (rfl _)) ⨟ sy (z-add _)
+  dot_append [] b w = dot_cong b (λ i l. subst (λ j. w i ~ w j) (sym (zero-add i)) (rfl _)) ⨟ sy (z-add _)
   dot_append (x ∷ a) b w =
       add_cong (rfl _)
       (dot_append a b (λ i. w (suc i))

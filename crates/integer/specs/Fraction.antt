@@ -2,7 +2,7 @@
 -- cross products." None is reduced. That they are an ordered field is shown in `proofs/Fraction.antt`; nothing else looks inside the
 -- operations, which therefore stay shut.
 use Rattle.std.specs.Prelude.{◌≡◌, ℕ, zero, suc, ◌*◌, ◌<◌, T, ltb, ℤ, pos, negsuc, neg_ℤ, ◌+ℤ◌, ◌*ℤ◌, ◌≤ℤ◌, ◌<ℤ◌}
-use Rattle.std.proofs.Common.{arith, mul_zero, lt→ltb, ltb→lt}
+use Rattle.std.proofs.Common.{arith, mul-zero, lt→ltb, ltb→lt}
 use Rattle.std.proofs.Math.Nat.{mul-lt-mul_of_pos_left}
 use Rattle.std.specs.Int.Signed.{lt_z_yes}
 
@@ -31,7 +31,7 @@ pub product_above : {a b : ℤ} → pos 0 <ℤ a → pos 0 <ℤ b → pos 0 <ℤ
 product_above {a = pos m} {b = pos n} h k = lt_z_yes (lt→ltb 0 (m * n) (product_positive (ltb→lt 0 m h.lt) (ltb→lt 0 n k.lt)))
   where
     product_positive : {m n : ℕ} → 0 < m → 0 < n → 0 < m * n
-    product_positive {m} {n} p q = rw mul_zero at (mul-lt-mul_of_pos_left {m = 0} {n = n} {k = m} q p)
+    product_positive {m} {n} p q = rw mul-zero at (mul-lt-mul_of_pos_left {m = 0} {n = n} {k = m} q p)
 product_above {a = pos m} {b = negsuc n} h k = absurd k.lt
 product_above {a = negsuc m} {b = b} h k = absurd h.lt
 

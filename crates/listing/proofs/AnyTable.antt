@@ -7,7 +7,7 @@ use native.Mathlib.Omega.{arith}
 use native.Mathlib.Decide.{ℕ_discrete}
 use lib.IntN.{ℤ, pos}
 use lib.Dec.{eqb}
-use lib.ListN.{length, replicate, length_replicate}
+use lib.ListN.{length, replicate, length-replicate}
 use Rattle.affine.specs.Lists.{pick}
 use Rattle.sheet.specs.declared.Schedule.{Schedule}
 use Rattle.sheet.specs.Reading.{read_of}
@@ -71,4 +71,4 @@ module _ (t r u s : List ℤ) (long : table_numbers ≤ length t) (long_r : rang
 pub any_table : AnyTable
 any_table sheet table ranges long long_ranges =
     text_alike table ranges (replicate table_numbers (pos 0)) (replicate ranges_numbers (pos 0)) long long_ranges
-    (omega (arith, length_replicate table_numbers (pos 0))) (omega (arith, length_replicate ranges_numbers (pos 0))) sheet
+    (omega (arith, length-replicate table_numbers (pos 0))) (omega (arith, length-replicate ranges_numbers (pos 0))) sheet

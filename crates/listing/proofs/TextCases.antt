@@ -2,7 +2,7 @@
 use mathlib.Core.Path.{◌≡◌, sym, ap, ◌∙◌}
 use mathlib.Core.List.{List}
 use Prim.Native.Nat.{ℕ, ◌≤◌, ◌<◌}
-use native.Mathlib.Nat.{zero_add}
+use native.Mathlib.Nat.{zero-add}
 use borrow.Author.Tests.{eq-eqb, ne_eqb, lt-ltb, le-ltb}
 use lib.IntN.{ℤ}
 use lib.ListN.{length}
@@ -54,7 +54,7 @@ module _ (sheet : List ℕ) (table ranges : List ℤ) (text : List ℕ) where
       → Listed sheet table table_afterwards ranges ranges_afterwards text text_afterwards (record { refusal = accepted; length = length' })
   listed_written {wanted = wanted} h ends w =
       let e = le-ltb (length text) text_room h in
-      let n = w.ends ∙ zero_add (length wanted) in
+      let n = w.ends ∙ zero-add (length wanted) in
       record {
         answers = rw (e, ends.text_is, n);
         leaves_table = rw e (sym ends.table_is);
@@ -68,4 +68,4 @@ module _ (sheet : List ℕ) (table ranges : List ℤ) (text : List ℕ) where
   listed_wrote h l =
       let e = le-ltb (length text) text_room h in
       let answers = rw e at l.answers in
-      record { ends = ap (λ (a : WriteAnswer). a.length) answers ∙ sym (zero_add (length (text_of sheet table ranges))); is = rw e at l.leaves_text }
+      record { ends = ap (λ (a : WriteAnswer). a.length) answers ∙ sym (zero-add (length (text_of sheet table ranges))); is = rw e at l.leaves_text }

@@ -2,7 +2,7 @@
 use mathlib.Core.Path.{◌≡◌, refl}
 use mathlib.Core.Bool.{Bool, true, false}
 use Prim.Native.Nat.{ℕ, zero, suc, ◌+◌, ◌<◌}
-use native.Mathlib.Nat.{zero_add, add-zero, add-suc, suc-add}
+use native.Mathlib.Nat.{zero-add, add-zero, add-suc, suc-add}
 use native.Mathlib.Omega.{arith}
 use lib.Dec.{eqb}
 use Rattle.sheet.specs.Choice.{pick}
@@ -17,7 +17,7 @@ use Rattle.sheet.proofs.LineKinds.{is_step_names, ends_line_is, step_line_is}
 -- several lines in two blocks: the second counts where the first has no fault
 test_split : (m n k : ℕ) (c : Schedule) → test_lines (m + n) k c ≡ pick (eqb (test_lines m k c).number 0) (test_lines n (k + m) c) (test_lines m k c)
 unfolding test_lines
-test_split zero n k c = rw (zero_add, add-zero)
+test_split zero n k c = rw (zero-add, add-zero)
 test_split (suc m) n k c = rw (suc-add, add-suc, ← suc-add) (step (eqb (fault_at c k) 0) refl (test_split m n (suc k) c))
   where
     step : (b : Bool) → eqb (fault_at c k) 0 ≡ b

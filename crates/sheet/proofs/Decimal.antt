@@ -11,7 +11,7 @@ use lib.Dec.{ltb}
 use lib.Signed.{lt_z}
 use mir.Syntax.{w64}
 use mir.Val.{SFits, to_z, of_z}
-use mir.ValLaws.{to_z_of_z}
+use mir.ValLaws.{to_z-of_z}
 use lib.ListN.{length, length-append}
 use Rattle.sheet.specs.Text.{decimal, numeral}
 use lib.IntN.{ℤ, pos, negsuc, nat_abs}
@@ -33,7 +33,7 @@ decimal_length k n f h = ap length (decimal_more k n f h) ∙ length-append (dec
 -- the numeral goes by the machine's test of v < 0
 pub numeral_below : (z : ℤ) → SFits w64 z → lt_z (to_z w64 (of_z w64 z)) (pos 0) ≡ true → numeral z ≡ 45 ∷ decimal 10 (nat_abs z)
 unfolding numeral
-numeral_below z f e = go z (rw (to_z_of_z w64 z f) at e)
+numeral_below z f e = go z (rw (to_z-of_z w64 z f) at e)
   where
     go : (z : ℤ) → lt_z z (pos 0) ≡ true → numeral z ≡ 45 ∷ decimal 10 (nat_abs z)
     go (pos n) e = absurd (omega (arith, ltb-true n 0 e))
@@ -41,7 +41,7 @@ numeral_below z f e = go z (rw (to_z_of_z w64 z f) at e)
 
 pub numeral_above : (z : ℤ) → SFits w64 z → lt_z (to_z w64 (of_z w64 z)) (pos 0) ≡ false → numeral z ≡ decimal 10 (nat_abs z)
 unfolding numeral
-numeral_above z f e = go z (rw (to_z_of_z w64 z f) at e)
+numeral_above z f e = go z (rw (to_z-of_z w64 z f) at e)
   where
     go : (z : ℤ) → lt_z z (pos 0) ≡ false → numeral z ≡ decimal 10 (nat_abs z)
     go (pos n) e = refl

@@ -7,7 +7,7 @@ use native.Mathlib.Omega.{arith}
 use native.Mathlib.Decide.{dec_lt}
 use borrow.Author.Tests.{lt-ltb, le-ltb, ltb-true}
 use lib.Dec.{ltb}
-use lib.ListN.{length, drop, get_or, drop_of_length-le, get_or_eq_default}
+use lib.ListN.{length, drop, get_or, drop_of_length-le, get_or-eq_default}
 use lib.Seq.{drop-cons}
 use Rattle.sheet.specs.declared.number.Run.{Run}
 use Rattle.sheet.specs.Number.{run, digit_of, run_of}
@@ -55,4 +55,4 @@ inside s i b e = go (dec_lt i (length s))
   where
     go : Dec (i < length s) → i < length s
     go (yes h) = h
-    go (no h) = absurd (omega (arith, get_or_eq_default s 0 {n = i} (omega arith)))
+    go (no h) = absurd (omega (arith, get_or-eq_default s 0 {n = i} (omega arith)))

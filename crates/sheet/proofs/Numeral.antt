@@ -8,7 +8,7 @@ use native.Mathlib.Numerals.{add-one}
 use native.Mathlib.Omega.{arith}
 use native.Mathlib.Decide.{dec_lt}
 use Rattle.sheet.proofs.Decimal.{decimal_one}
-use borrow.Author.Tests.{lt-ltb, le-ltb, le_leb, lt-leb, ltb-true, ltb-false, leb-false, eqb-true, eqb-false, eq-eqb, ne_eqb}
+use borrow.Author.Tests.{lt-ltb, le-ltb, le-leb, lt-leb, ltb-true, ltb-false, leb-false, eqb-true, eqb-false, eq-eqb, ne_eqb}
 use lib.Dec.{ltb, leb, eqb}
 use lib.IntN.{ℤ, pos, negsuc, nat_abs}
 use lib.Seq.{drop-nil, get_or-drop, get_or-append_seam, drop-cons, drop-drop}
@@ -23,7 +23,7 @@ use Rattle.sheet.proofs.Choice.{pick_elim}
 use Rattle.sheet.proofs.Digits.{run_within, inside}
 
 digit_of_lem : (d : ℕ) → d < 10 → digit_of (d + 48) ≡ d
-digit_of_lem d h = simp (le-ltb (d + 48) 48 (omega arith), le_leb (d + 48) 57 (omega arith)) (omega arith)
+digit_of_lem d h = simp (le-ltb (d + 48) 48 (omega arith), le-leb (d + 48) 57 (omega arith)) (omega arith)
 
 pub run_step : (a p d : ℕ) (bs : List ℕ) → a < 1000000000 → d < 10 → run a p ((d + 48) ∷ bs) ≡ run (a * 10 + d) (suc p) bs
 unfolding run

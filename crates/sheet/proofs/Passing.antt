@@ -3,7 +3,7 @@ use mathlib.Core.Path.{◌≡◌, refl, sym, ap, ◌∙◌}
 use mathlib.Core.Bool.{Bool, true, false}
 use Prim.Native.Nat.{ℕ, ◌-◌, ◌≤◌, ◌<◌}
 use native.Mathlib.Omega.{arith}
-use borrow.Author.Tests.{leb-true, le_leb, lt-leb}
+use borrow.Author.Tests.{leb-true, le-leb, lt-leb}
 use lib.Dec.{leb}
 use lib.Signed.{le_z}
 use lib.IntN.{ℤ, pos, negsuc, nat_abs}
@@ -100,12 +100,12 @@ step_passed_natural : (earlier k : ℕ) (first second value : ℤ)
     → StepPassed earlier (pos k) first second value
 step_passed_natural r k first second value a b p q v = record {
   code_in = record { is = refl; from = a; to = b };
-  first_row = λ h. row_used r first (leb 2 k) p (le_leb 2 k h);
+  first_row = λ h. row_used r first (leb 2 k) p (le-leb 2 k h);
   first_zero = λ h. row_unused r first (leb 2 k) p (lt-leb 2 k (omega arith));
-  second_row = λ h g. row_used r second (pick (leb 2 k) (leb k last_binary) false) q (simp (le_leb 2 k h) (le_leb k last_binary g));
+  second_row = λ h g. row_used r second (pick (leb 2 k) (leb k last_binary) false) q (simp (le-leb 2 k h) (le-leb k last_binary g));
   second_zero = λ h. row_unused r second (pick (leb 2 k) (leb k last_binary) false) q (simp (lt-leb 2 k (omega arith)));
-  second_zero_last = λ h. row_unused r second (pick (leb 2 k) (leb k last_binary) false) q (simp (le_leb 2 k (omega arith), lt-leb k last_binary h));
-  value_in = λ h. within_limit_lem value (rw (le_leb k 1 h) at v);
+  second_zero_last = λ h. row_unused r second (pick (leb 2 k) (leb k last_binary) false) q (simp (le-leb 2 k (omega arith), lt-leb k last_binary h));
+  value_in = λ h. within_limit_lem value (rw (le-leb k 1 h) at v);
   value_zero = λ h. zero_is value (rw (lt-leb k 1 (omega arith)) at v);
 }
 

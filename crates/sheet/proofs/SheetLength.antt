@@ -4,7 +4,7 @@ use mathlib.Core.List.{[], ◌∷◌, ◌++◌, append_assoc, append-nil}
 use Prim.Native.Nat.{ℕ, zero, suc, ◌+◌, ◌-◌, ◌*◌, ◌^◌, ◌≤◌, ◌<◌}
 use native.Mathlib.Omega.{arith}
 use native.Mathlib.Decide.{dec_le}
-use borrow.Author.Tests.{le_leb, lt-leb}
+use borrow.Author.Tests.{le-leb, lt-leb}
 use lib.Dec.{leb}
 use lib.ListN.{length, length-append}
 use Rattle.sheet.specs.Choice.{pick}
@@ -70,11 +70,11 @@ extra inputs n = 3 * (inputs + 4 - n) + pick (leb n (inputs + 4)) 5 0
 module _ (inputs n : ℕ) where
   extra_ends : n < inputs + 4 → extra inputs (suc n) + 3 ≡ extra inputs n
   unfolding extra
-  extra_ends h = simp (le_leb n (inputs + 4) (omega arith), le_leb (suc n) (inputs + 4) h) (omega arith)
+  extra_ends h = simp (le-leb n (inputs + 4) (omega arith), le-leb (suc n) (inputs + 4) h) (omega arith)
 
   extra_names : n ≡ inputs + 4 → extra inputs (suc n) + 5 ≡ extra inputs n
   unfolding extra
-  extra_names e = simp (le_leb n (inputs + 4) (omega arith), lt-leb (suc n) (inputs + 4) (omega arith)) (omega arith)
+  extra_names e = simp (le-leb n (inputs + 4) (omega arith), lt-leb (suc n) (inputs + 4) (omega arith)) (omega arith)
 
   extra_steps : inputs + 4 < n → extra inputs n ≡ 0
   unfolding extra
@@ -82,7 +82,7 @@ module _ (inputs n : ℕ) where
 
 extra_first : (inputs : ℕ) → extra inputs 3 ≡ 3 * (inputs + 1) + 5
 unfolding extra
-extra_first inputs = simp (le_leb 3 (inputs + 4) (omega arith)) (omega arith)
+extra_first inputs = simp (le-leb 3 (inputs + 4) (omega arith)) (omega arith)
 
 line_wide : (c : Schedule) (l : Line) (n : ℕ) → Kind (natural c.inputs) n l → n < 105 → fault l (numbers c l) ≡ 0
     → length (line_text l (numbers c l)) + extra (natural c.inputs) (suc n) ≤ 19 + extra (natural c.inputs) n

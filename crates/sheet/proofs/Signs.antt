@@ -9,18 +9,18 @@ use lib.Dec.{T}
 use borrow.Author.Tests.{ltb-true, le-ltb}
 use mir.Syntax.{w64}
 use mir.Val.{SFits, Fits, to_z, of_z}
-use mir.ValLaws.{to_z_of_z, to_z_pos}
+use mir.ValLaws.{to_z-of_z, to_z_pos}
 
 -- a number that is below 0, and one that is not, by the machine's test
 pub below_zero : (z : ℤ) → SFits w64 z → lt_z (to_z w64 (of_z w64 z)) (pos 0) ≡ true → z ≡ negsuc (mag z)
-below_zero z f e = go z (rw (to_z_of_z w64 z f) at e)
+below_zero z f e = go z (rw (to_z-of_z w64 z f) at e)
   where
     go : (z : ℤ) → lt_z z (pos 0) ≡ true → z ≡ negsuc (mag z)
     go (pos n) e = absurd (omega (arith, ltb-true n 0 e))
     go (negsuc n) e = refl
 
 pub from_zero : (z : ℤ) → SFits w64 z → lt_z (to_z w64 (of_z w64 z)) (pos 0) ≡ false → z ≡ pos (nat_abs z)
-from_zero z f e = go z (rw (to_z_of_z w64 z f) at e)
+from_zero z f e = go z (rw (to_z-of_z w64 z f) at e)
   where
     go : (z : ℤ) → lt_z z (pos 0) ≡ false → z ≡ pos (nat_abs z)
     go (pos n) e = refl
@@ -35,7 +35,7 @@ pub negated_fits : (v : ℕ) → v < 10000000000 → SFits w64 (pos 0 -ℤ to_z 
 negated_fits v h = rw (to_z_pos w64 v (omega arith), +ℤ_idl (neg_ℤ (pos v))) (record { sfits = mag_negated v h })
 
 pub negated_is : (v : ℕ) → v < 10000000000 → to_z w64 (of_z w64 (pos 0 -ℤ to_z w64 v)) ≡ neg_ℤ (pos v)
-negated_is v h = to_z_of_z w64 _ (negated_fits v h) ∙ rw (to_z_pos w64 v (omega arith), +ℤ_idl (neg_ℤ (pos v)))
+negated_is v h = to_z-of_z w64 _ (negated_fits v h) ∙ rw (to_z_pos w64 v (omega arith), +ℤ_idl (neg_ℤ (pos v)))
 
 -- -1 - v for a number below 0
 pub mirrored : (n : ℕ) → negsuc 0 -ℤ negsuc n ≡ pos n
@@ -48,7 +48,7 @@ pub record Mirrored (z : ℤ) : Type 0 where
   pub size : nat_abs z ≡ mag z + 1
 
 pub mirrored_below : (z : ℤ) → SFits w64 z → lt_z (to_z w64 (of_z w64 z)) (pos 0) ≡ true → Mirrored z
-mirrored_below z f e = go z f (to_z_of_z w64 z f) (below_zero z f e)
+mirrored_below z f e = go z f (to_z-of_z w64 z f) (below_zero z f e)
   where
     go : (z : ℤ) → SFits w64 z → to_z w64 (of_z w64 z) ≡ z → z ≡ negsuc (mag z) → Mirrored z
     go (pos n) f b e = absurd (let y : ◌≡◌ {A = ℕ} 0 1 = cc in omega arith)
@@ -56,7 +56,7 @@ mirrored_below z f e = go z f (to_z_of_z w64 z f) (below_zero z f e)
         let i : negsuc 0 -ℤ to_z w64 (of_z w64 (negsuc n)) ≡ pos n = rw b (mirrored n) in
         record {
           is = i;
-          back = rw i (to_z_of_z w64 (pos n) (record { sfits = f.sfits }));
+          back = rw i (to_z-of_z w64 (pos n) (record { sfits = f.sfits }));
           small = f.sfits;
           size = omega arith;
         }
@@ -67,7 +67,7 @@ pub record Cast (z : ℤ) : Type 0 where
   pub is : nat_abs (to_z w64 (of_z w64 z)) ≡ nat_abs z
 
 pub cast_from_zero : (z : ℤ) → SFits w64 z → lt_z (to_z w64 (of_z w64 z)) (pos 0) ≡ false → Cast z
-cast_from_zero z f e = go z f (to_z_of_z w64 z f) (from_zero z f e)
+cast_from_zero z f e = go z f (to_z-of_z w64 z f) (from_zero z f e)
   where
     go : (z : ℤ) → SFits w64 z → to_z w64 (of_z w64 z) ≡ z → z ≡ pos (nat_abs z) → Cast z
     go (pos n) f b e = record { fits = rw b (tt, record { fits = omega (arith, f.sfits) }); is = rw b }

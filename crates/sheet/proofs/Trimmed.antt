@@ -5,7 +5,7 @@ use Prim.Native.Nat.{ℕ, zero, suc, ◌+◌, ◌-◌, ◌≤◌, ◌<◌}
 use native.Mathlib.Nat.{add-zero}
 use native.Mathlib.Omega.{arith}
 use native.Mathlib.Decide.{dec_lt}
-use lib.ListN.{get_or, set, replicate, length_replicate, get_or-replicate, get_or_eq_default}
+use lib.ListN.{get_or, set, replicate, length-replicate, get_or-replicate, get_or-eq_default}
 use lib.IntN.{ℤ}
 use Rattle.sheet.specs.Limits.{max_inputs, max_steps}
 use Rattle.sheet.specs.Lines.{natural, zero_schedule, zero_end, zero_step, ends_at, step_at, line_at, lines_left, numbers, store}
@@ -36,7 +36,7 @@ up_to_within (suc room) (suc n) (suc i) f z h g = up_to_within room n i (λ j. f
 
 pub up_to_beyond : {A : Type 0} (room n i : ℕ) (f : ℕ → A) (z : A) → n ≤ i → get_or (up_to room n f z) i z ≡ z
 unfolding up_to
-up_to_beyond room zero i f z h = elim (dec_lt i room) [ yes l ↦ get_or-replicate room i z z l | no l ↦ get_or_eq_default (replicate room z) z (rw length_replicate (omega arith)) ]
+up_to_beyond room zero i f z h = elim (dec_lt i room) [ yes l ↦ get_or-replicate room i z z l | no l ↦ get_or-eq_default (replicate room z) z (rw length-replicate (omega arith)) ]
 up_to_beyond zero (suc n) i f z h = refl
 up_to_beyond (suc room) (suc n) zero f z h = absurd (omega arith)
 up_to_beyond (suc room) (suc n) (suc i) f z h = up_to_beyond room n i (λ j. f (suc j)) z (omega arith)

@@ -4,7 +4,7 @@ use Prim.Native.Nat.{◌-◌}
 use native.Mathlib.Omega.{arith}
 use mir.Syntax.{w64}
 use mir.Val.{SFits}
-use mir.ValLaws.{to_z_of_z}
+use mir.ValLaws.{to_z-of_z}
 use Rattle.affine.specs.declared.Range.{Range}
 use Rattle.evaluation.specs.Table.{range_at}
 use Rattle.evaluation.specs.Asking.{range_refusal, range_told, range_refused, range_of}
@@ -51,8 +51,8 @@ returns_2 c =
     let refused = range_refusal s.args.table.now s.args.ranges.now s.args.count s.args.row in
     (λ i. record {
       refusal = (r.range-refusal.ensures ∙ (asked g.before).answer) i;
-      low = (to_z_of_z w64 _ (low_fits c) ∙ ap (λ (a : Range). a.low) g.get-range.ensures) i;
-      high = (to_z_of_z w64 _ (high_fits c) ∙ ap (λ (a : Range). a.high) g.get-range.ensures) i;
+      low = (to_z-of_z w64 _ (low_fits c) ∙ ap (λ (a : Range). a.low) g.get-range.ensures) i;
+      high = (to_z-of_z w64 _ (high_fits c) ∙ ap (λ (a : Range). a.high) g.get-range.ensures) i;
     })
     ∙ told_answer refused (range_told (range_at s.args.ranges.now (s.args.row - 1))) (range_refused refused) r.range-refusal.ensures g.before.if1.left
 

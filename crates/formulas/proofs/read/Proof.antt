@@ -4,7 +4,7 @@ use Prim.Native.Nat.{ℕ}
 use native.Mathlib.Omega.{arith}
 use mir.Syntax.{w64}
 use mir.Val.{SFits}
-use mir.ValLaws.{to_z_of_z}
+use mir.ValLaws.{to_z-of_z}
 use Rattle.sheet.specs.Causes.{accepted}
 use Rattle.sheet.specs.Lines.{natural}
 use Rattle.sheet.specs.declared.Refusal.{Refusal}
@@ -37,7 +37,7 @@ inputs_fit : (c : tie.Start) → SFits w64 c.args.block.inputs
 inputs_fit c = search rules
 
 inputs_are : (c : tie.After-natural) → c.natural.result ≡ natural (begun c).args.block.inputs
-inputs_are c = c.natural.ensures ∙ ap natural (to_z_of_z w64 _ (inputs_fit (begun c)))
+inputs_are c = c.natural.ensures ∙ ap natural (to_z-of_z w64 _ (inputs_fit (begun c)))
 
 inputs_test_requires : tie.Need-inputs-test-requires
 inputs_test_requires c κs = search rules

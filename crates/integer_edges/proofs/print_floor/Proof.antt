@@ -6,7 +6,7 @@ use native.Mathlib.Omega.{arith}
 use lib.IntN.{ℤ, pos, negsuc, nat_abs}
 use mir.Syntax.{w64}
 use mir.Val.{SFits, of_z}
-use mir.ValLaws.{to_z_of_z}
+use mir.ValLaws.{to_z-of_z}
 use borrow.Author.Rules.{rules}
 use Rattle.integer.specs.Floor.{floor_quotient}
 use Rattle.integer.proofs.Absolute.{fits_of_nat_abs}
@@ -46,7 +46,7 @@ write_all_requires_2 c κs = search rules
 floor_quotient_requires : tie.Need-floor-quotient-requires
 floor_quotient_requires c κs =
     let s = c.before.before.before.before.before.before in
-    rw (to_z_of_z w64 _ s.before.ranges.a, to_z_of_z w64 _ s.before.ranges.d)
+    rw (to_z-of_z w64 _ s.before.ranges.a, to_z-of_z w64 _ s.before.ranges.d)
     (nonzero s, floor_quotient_fits s.before.args.a s.before.args.d (λ e. c.if3.false (ap (of_z w64) e)) s.before.ranges.a)
 
 print_signed_requires_3 : tie.Need-print-signed-requires-3
@@ -59,7 +59,7 @@ floor_quotient_requires_2 c κs =
     let d = s.before.args.d in
     let h = not_least a s.before.ranges.a c.if2.false in
     let k = nat_abs_quotient a d in
-    rw (to_z_of_z w64 _ s.before.ranges.a, to_z_of_z w64 _ s.before.ranges.d)
+    rw (to_z-of_z w64 _ s.before.ranges.a, to_z-of_z w64 _ s.before.ranges.d)
     (nonzero s, fits_of_nat_abs (floor_quotient a d) (omega arith))
 
 print_signed_requires_4 : tie.Need-print-signed-requires-4
@@ -68,7 +68,7 @@ print_signed_requires_4 c κs = search rules
 floor_remainder_requires : tie.Need-floor-remainder-requires
 floor_remainder_requires c κs =
     let s = c.before.before.before.before.before in
-    rw (to_z_of_z w64 _ s.before.ranges.d) (nonzero s)
+    rw (to_z-of_z w64 _ s.before.ranges.d) (nonzero s)
 
 print_signed_requires_5 : tie.Need-print-signed-requires-5
 print_signed_requires_5 c κs = search rules

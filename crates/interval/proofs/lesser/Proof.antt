@@ -3,21 +3,21 @@ use mathlib.Core.Path.{◌≡◌}
 use mathlib.Core.Bool.{true, false}
 use lib.Signed.{le_z}
 use mir.Syntax.{w64}
-use mir.ValLaws.{to_z_of_z}
+use mir.ValLaws.{to_z-of_z}
 use Rattle.interval.proofs.lesser.Statement.{statement}
 use Rattle.interval.proofs.lesser.Tie as tie
 
 not_above : (c : tie.Then1) → le_z c.before.args.a c.before.args.b ≡ true
-not_above c = rw (to_z_of_z w64 _ c.before.ranges.a, to_z_of_z w64 _ c.before.ranges.b) at c.if1.true
+not_above c = rw (to_z-of_z w64 _ c.before.ranges.a, to_z-of_z w64 _ c.before.ranges.b) at c.if1.true
 
 above : (c : tie.Else1) → le_z c.before.args.a c.before.args.b ≡ false
-above c = rw (to_z_of_z w64 _ c.before.ranges.a, to_z_of_z w64 _ c.before.ranges.b) at c.if1.false
+above c = rw (to_z-of_z w64 _ c.before.ranges.a, to_z-of_z w64 _ c.before.ranges.b) at c.if1.false
 
 returns : tie.Need-returns
-returns c = rw (to_z_of_z w64 _ c.before.ranges.a, not_above c)
+returns c = rw (to_z-of_z w64 _ c.before.ranges.a, not_above c)
 
 returns_2 : tie.Need-returns-2
-returns_2 c = rw (to_z_of_z w64 _ c.before.ranges.b, above c)
+returns_2 c = rw (to_z-of_z w64 _ c.before.ranges.b, above c)
 
 pub lesser_spec : {M : Type 1} → statement M
 lesser_spec = tie.close (tie.spec returns returns_2)

@@ -4,7 +4,7 @@ use native.Mathlib.Omega.{arith}
 use lib.IntN.{pos}
 use mir.Syntax.{w64}
 use mir.Val.{SFits, to_z, of_z}
-use mir.ValLaws.{to_z_of_z}
+use mir.ValLaws.{to_z-of_z}
 use borrow.Author.Rules.{rules}
 use Rattle.integer.proofs.Absolute.{fits_within}
 use Rattle.affine.specs.Limits.{span_limit}
@@ -49,8 +49,8 @@ returns c =
     let l = c.before.before in
     let s = l.before.before in
     λ i. record {
-      low = (ap (λ k. to_z w64 k) (low_is l) ∙ to_z_of_z w64 _ (low_fits s)) i;
-      high = (ap (λ k. to_z w64 k) (high_is c) ∙ to_z_of_z w64 _ (high_fits s)) i;
+      low = (ap (λ k. to_z w64 k) (low_is l) ∙ to_z-of_z w64 _ (low_fits s)) i;
+      high = (ap (λ k. to_z w64 k) (high_is c) ∙ to_z-of_z w64 _ (high_fits s)) i;
     }
 
 pub root_spec : {M : Type 1} → statement M

@@ -1,6 +1,6 @@
 -- A constant may be an operand.
 use mir.Syntax.{w64}
-use mir.ValLaws.{to_z_of_z}
+use mir.ValLaws.{to_z-of_z}
 use borrow.Author.Rules.{rules}
 use Rattle.affine.specs.Limits.{symbols}
 use Rattle.affine.specs.Row.{form_range}
@@ -17,7 +17,7 @@ constant_requires c κs = search rules
 returns : tie.Need-returns
 returns c own =
     let r = constant_row c.before.args.value in
-    rw (c.constant.ensures, to_z_of_z w64 _ c.before.ranges.value) (checked_operand own r (form_range r) (λ i l. at_replicate symbols i) (form_centred r))
+    rw (c.constant.ensures, to_z-of_z w64 _ c.before.ranges.value) (checked_operand own r (form_range r) (λ i l. at_replicate symbols i) (form_centred r))
 
 pub constant_spec : {M : Type 1} → statement M
 constant_spec = tie.close (tie.spec constant_requires returns)

@@ -1,7 +1,7 @@
 -- An input may be an operand.
 use native.Mathlib.Omega.{arith}
 use mir.Syntax.{w64}
-use mir.ValLaws.{to_z_of_z}
+use mir.ValLaws.{to_z-of_z}
 use borrow.Author.Rules.{rules}
 use Rattle.affine.specs.Steps.{input_row, ends_range}
 use Rattle.affine.proofs.Support.{input_free}
@@ -18,7 +18,7 @@ returns c =
     let a = c.before.args in
     let r = input_row 0 a.low a.high in
     let own = ends_range a.low a.high in
-    rw (c.input.ensures, to_z_of_z w64 _ c.before.ranges.low, to_z_of_z w64 _ c.before.ranges.high)
+    rw (c.input.ensures, to_z-of_z w64 _ c.before.ranges.low, to_z-of_z w64 _ c.before.ranges.high)
     (checked_operand 1 r own (λ i l. (input_free i 0 a.low a.high (λ e. omega (arith, e))).linear) (input_centred 0 a.low a.high c.before.requires.2))
 
 pub input_spec : {M : Type 1} → statement M

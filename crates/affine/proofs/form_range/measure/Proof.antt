@@ -3,10 +3,10 @@ use mathlib.Core.Path.{◌≡◌, ap, ap₂, ◌∙◌}
 use mathlib.Core.Bool.{true}
 use Prim.Native.Nat.{ℕ, ◌+◌, ◌-◌, ◌≤◌}
 use native.Mathlib.Omega.{arith}
-use borrow.Author.Tests.{le_leb, lt-leb}
+use borrow.Author.Tests.{le-leb, lt-leb}
 use lib.IntN.{nat_abs}
 use mir.Syntax.{w64}
-use mir.ValLaws.{to_z_of_z}
+use mir.ValLaws.{to_z-of_z}
 use Rattle.integer.specs.Sum.{sum_abs}
 use Rattle.affine.specs.declared.Row.{Row}
 use Rattle.affine.specs.Limits.{span_limit}
@@ -46,7 +46,7 @@ abbrev start : tie.After-absolute → tie.Start
 start c = summed c.before
 
 centre_is : (c : tie.After-absolute) → c.absolute.result ≡ nat_abs (start c).args.c
-centre_is c = c.absolute.ensures ∙ ap nat_abs (to_z_of_z w64 _ (start c).ranges.c)
+centre_is c = c.absolute.ensures ∙ ap nat_abs (to_z-of_z w64 _ (start c).ranges.c)
 
 span_is : (c : tie.After-absolute) → c.absolute.result + total c.before ≡ span (row (start c))
 span_is c = omega (arith, centre_is c, total_is c.before, span_is_sum (row (start c)))
@@ -62,7 +62,7 @@ range_around_requires c κs =
     let a = c.before in
     let s = start a in
     let r = total_is a.before in
-    (s.pre.0, omega (arith, r), rw (to_z_of_z w64 _ s.fits.c) (omega (arith, within c, r, span_is_sum (row s))))
+    (s.pre.0, omega (arith, r), rw (to_z-of_z w64 _ s.fits.c) (omega (arith, within c, r, span_is_sum (row s))))
 
 -- what the coefficients reach on each side, and the range
 linear_left : (c : tie.After-absolutes2) → total c - sum_abs (summed c).args.p.now ≡ sum_abs (summed c).args.l.now
@@ -72,7 +72,7 @@ range_is : (c : tie.After-range-around) → c.range-around.result ≡ form_range
 unfolding low high
 range_is c =
     let a = c.before.before in
-    let e = to_z_of_z w64 _ (start a).ranges.c in
+    let e = to_z-of_z w64 _ (start a).ranges.c in
     λ i. record {
       low = (rw (e, linear_left a.before) at c.range-around.ensures.0) i;
       high = (rw (e, linear_left a.before) at c.range-around.ensures.1) i;
@@ -86,7 +86,7 @@ returns : tie.Need-returns
 returns c =
     let a = c.before.before in
     let r = row (start a) in
-    rw (le_leb (span r) span_limit (within c.before)) (λ i. record { within = true; radius = radius_is a.before i; range = range_is c i })
+    rw (le-leb (span r) span_limit (within c.before)) (λ i. record { within = true; radius = radius_is a.before i; range = range_is c i })
 
 returns_2 : tie.Need-returns-2
 returns_2 c =

@@ -8,7 +8,7 @@ use native.Mathlib.Omega.{arith}
 use lib.IntN.{ℤ, pos, ◌+ℤ◌, ◌-ℤ◌}
 use mir.Syntax.{w64}
 use mir.Val.{SFits, to_z, of_z}
-use mir.ValLaws.{to_z_of_z}
+use mir.ValLaws.{to_z-of_z}
 use Rattle.integer.specs.Sum.{sum_abs}
 use Rattle.integer.proofs.Absolute.{nat_abs_add, nat_abs_sub, fits_within}
 use Rattle.integer.proofs.Machine.{back_as}
@@ -45,13 +45,13 @@ high_fits s = fits_within _ span_limit (omega (arith, nat_abs_add s.args.c (pos 
 
 -- the numbers as the machine has them
 centre_is : (s : tie.Start) → to_z w64 (of_z w64 s.args.c) ≡ s.args.c
-centre_is s = to_z_of_z w64 _ s.ranges.c
+centre_is s = to_z-of_z w64 _ s.ranges.c
 
 left_is : (c : tie.After-sum-squares) → c.before.args.radius - c.sum-squares.result.above ≡ reach false c.before
 left_is c = let s = c.before in omega (arith, c.sum-squares.ensures.0, s.requires.1, reach_and_squares false (pair s) s.requires.0)
 
 below_is : (c : tie.After-sum-squares) → to_z w64 (c.before.args.radius - c.sum-squares.result.above) ≡ pos (reach false c.before)
-below_is c = let s = c.before in rw (left_is c) (to_z_of_z w64 (pos (reach false s)) (reach_fits false s))
+below_is c = let s = c.before in rw (left_is c) (to_z-of_z w64 (pos (reach false s)) (reach_fits false s))
 
 sum_is : (c : tie.After-sum-squares) → to_z w64 (of_z w64 c.sum-squares.result.sum) ≡ balance (pair c.before)
 sum_is c = back_as c.sum-squares.ensures.1 (balance_fits c.before)
@@ -62,7 +62,7 @@ turned_over s = below_to_above (s.args.radius - sum_abs (pair s)) (pair s) s.req
 above_is : (c : tie.After-sum-squares)
     → to_z w64 (of_z w64 (to_z w64 (c.before.args.radius - c.sum-squares.result.above) +ℤ to_z w64 (of_z w64 c.sum-squares.result.sum)))
     ≡ pos (reach true c.before)
-above_is c = let s = c.before in rw (below_is c, sum_is c, turned_over s) (to_z_of_z w64 (pos (reach true s)) (reach_fits true s))
+above_is c = let s = c.before in rw (below_is c, sum_is c, turned_over s) (to_z-of_z w64 (pos (reach true s)) (reach_fits true s))
 
 sub_below : tie.Need-overflow-sub-below
 sub_below c =
@@ -87,7 +87,7 @@ returns : tie.Need-returns
 returns c =
     let m = c.before.before.before in
     let s = m.before in
-    (rw (centre_is s, below_is m) (to_z_of_z w64 _ (low_fits s)), rw (centre_is s, above_is m) (to_z_of_z w64 _ (high_fits s)))
+    (rw (centre_is s, below_is m) (to_z-of_z w64 _ (low_fits s)), rw (centre_is s, above_is m) (to_z-of_z w64 _ (high_fits s)))
 
 pub range_around_spec : {M : Type 1} → statement M
 range_around_spec = tie.close (tie.spec sum_squares_requires sub_below cast_below sub_t7 add_t8 add_t9 returns)

@@ -5,7 +5,7 @@ use Prim.Native.Nat.{◌+◌, ◌-◌}
 use lib.IntN.{ℤ, ◌+ℤ◌}
 use mir.Syntax.{w64}
 use mir.Val.{SFits, to_z, of_z}
-use mir.ValLaws.{to_z_of_z}
+use mir.ValLaws.{to_z-of_z}
 use native.Mathlib.Omega.{arith}
 use borrow.Author.Rules.{rules}
 use Rattle.integer.proofs.Absolute.{fits_within}
@@ -86,7 +86,7 @@ loop_less : tie.Need-loop-smaller invariant_loop decreases_loop
 loop_less c = search rules
 
 loop_again : tie.Need-loop-preserved invariant_loop decreases_loop
-loop_again c = rw (v_is c, to_z_of_z w64 _ (sum_fits c)) (turned c)
+loop_again c = rw (v_is c, to_z-of_z w64 _ (sum_fits c)) (turned c)
 
 returns : tie.Need-returns invariant_loop decreases_loop
 returns c =

@@ -2,7 +2,7 @@
 use mathlib.Core.Path.{◌≡◌, ◌∙◌}
 use mir.Syntax.{w64}
 use mir.Val.{to_z, of_z}
-use mir.ValLaws.{to_z_of_z}
+use mir.ValLaws.{to_z-of_z}
 use borrow.Author.Rules.{rules}
 use Rattle.integer.proofs.Machine.{back}
 use Rattle.affine.specs.declared.Row.{Row}
@@ -39,10 +39,10 @@ abbrev start : Read → tie.Start
 start c = c.before.before
 
 c_is : (c : tie.Start) → to_z w64 (of_z w64 c.args.c) ≡ c.args.c
-c_is c = to_z_of_z w64 _ c.ranges.c
+c_is c = to_z-of_z w64 _ c.ranges.c
 
 d_is : (c : tie.Start) → to_z w64 (of_z w64 c.args.d) ≡ c.args.d
-d_is c = to_z_of_z w64 _ c.ranges.d
+d_is c = to_z-of_z w64 _ c.ranges.d
 
 ai_is : (c : Read) → to_z w64 (of_z w64 (at (x (start c)).linear (start c).args.i)) ≡ at (x (start c)).linear (start c).args.i
 ai_is c = back c.before.ai.given

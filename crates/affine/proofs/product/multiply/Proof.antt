@@ -7,7 +7,7 @@ use lib.IntN.{ℤ, pos, nat_abs, ◌*ℤ◌}
 use lib.ListN.{length, set}
 use mir.Syntax.{w64}
 use mir.Val.{SFits, to_z, of_z}
-use mir.ValLaws.{to_z_of_z, to_z_pos}
+use mir.ValLaws.{to_z-of_z, to_z_pos}
 use Rattle.integer.specs.Floor.{ceiling_quotient}
 use Rattle.integer.specs.Sum.{sum_abs}
 use Rattle.integer.proofs.Absolute.{fits_within}
@@ -52,10 +52,10 @@ nearest_remainder_4096_requires c κs = search rules
 
 -- ---- the parts of both rows, as they are lent
 x_is : (c : tie.Start) → to_z w64 (of_z w64 c.args.t1.centre) ≡ c.args.t1.centre
-x_is c = to_z_of_z w64 _ (x_fits c)
+x_is c = to_z-of_z w64 _ (x_fits c)
 
 y_is : (c : tie.Start) → to_z w64 (of_z w64 c.args.t3.centre) ≡ c.args.t3.centre
-y_is c = to_z_of_z w64 _ (y_fits c)
+y_is c = to_z-of_z w64 _ (y_fits c)
 
 x_long : (c : tie.Start) → length c.args.t1.linear ≡ symbols
 x_long c = search rules

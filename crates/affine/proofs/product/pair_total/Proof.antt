@@ -6,7 +6,7 @@ use borrow.Author.Rules.{rules}
 use lib.IntN.{ℤ, ◌+ℤ◌}
 use mir.Syntax.{w64}
 use mir.Val.{SFits, to_z, of_z}
-use mir.ValLaws.{to_z_of_z}
+use mir.ValLaws.{to_z-of_z}
 use Rattle.integer.proofs.Absolute.{nat_abs_add_within, fits_within}
 use Rattle.integer.proofs.Machine.{back, back_as}
 use Rattle.affine.specs.declared.Row.{Row}
@@ -46,10 +46,10 @@ abbrev start : Read → tie.Start
 start c = c.before.before
 
 c_is : (c : tie.Start) → to_z w64 (of_z w64 c.args.c) ≡ c.args.c
-c_is c = to_z_of_z w64 _ c.ranges.c
+c_is c = to_z-of_z w64 _ c.ranges.c
 
 d_is : (c : tie.Start) → to_z w64 (of_z w64 c.args.d) ≡ c.args.d
-d_is c = to_z_of_z w64 _ c.ranges.d
+d_is c = to_z-of_z w64 _ c.ranges.d
 
 pk_is : (c : Read) → to_z w64 (of_z w64 (at (x (start c)).pair (start c).args.k)) ≡ at (x (start c)).pair (start c).args.k
 pk_is c = back c.before.pk.given

@@ -4,7 +4,7 @@ use mathlib.Core.List.{List, [], map}
 use Prim.Native.Nat.{ℕ, ◌+◌, ◌-◌, ◌*◌, ◌≤◌, ◌<◌}
 use native.Mathlib.Omega.{arith}
 use lib.IntN.{ℤ, pos}
-use lib.ListN.{length, set, length_replicate}
+use lib.ListN.{length, set, length-replicate}
 use mir.Syntax.{w64}
 use mir.Val.{to_z, of_z}
 use borrow.Author.Rules.{rules}
@@ -113,7 +113,7 @@ loop_again c =
 same_length : tie.Need-same-length invariant_loop decreases_loop
 same_length c =
     let l = c.before in
-    ap length l.loop.invariant.1 ∙ length_front symbols _ l.loop.i ∙ sym (ap length l.before.requires.0.1 ∙ length_replicate symbols (pos 0))
+    ap length l.loop.invariant.1 ∙ length_front symbols _ l.loop.i ∙ sym (ap length l.before.requires.0.1 ∙ length-replicate symbols (pos 0))
 
 -- the totals from the own symbol on leave nothing
 whole : (c : tie.After-loop invariant_loop decreases_loop) (h : ℤ → ℤ) → h (pos 0) ≡ pos 0

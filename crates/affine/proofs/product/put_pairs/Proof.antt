@@ -5,7 +5,7 @@ use Prim.Native.Nat.{◌-◌, ◌≤◌}
 use native.Mathlib.Numerals.{add-one}
 use native.Mathlib.Omega.{arith}
 use lib.IntN.{ℤ, pos}
-use lib.ListN.{length, replicate, length-map, length_replicate}
+use lib.ListN.{length, replicate, length-map, length-replicate}
 use mir.Syntax.{w64}
 use mir.Val.{to_z}
 use borrow.Author.Rules.{rules}
@@ -72,7 +72,7 @@ same_length c =
     let l = c.before in
     let s = l.before in
     ap length l.loop.invariant.1 ∙ length-map (pair_totals l.loop.j (read_x (lent s)) (read_y (lent s))) _ ∙ length_pair_totals l.loop.j (read_x (lent s)) (read_y (lent s))
-    ∙ sym (ap length s.requires.0.1 ∙ length_replicate pairs (pos 0))
+    ∙ sym (ap length s.requires.0.1 ∙ length-replicate pairs (pos 0))
 
 -- all pairs in use
 all_used : (c : tie.After-loop invariant_loop decreases_loop)

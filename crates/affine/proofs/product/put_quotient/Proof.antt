@@ -5,7 +5,7 @@ use lib.ListN.{set}
 use lib.Seq.{set-get_or}
 use mir.Syntax.{w64}
 use mir.Val.{to_z, of_z}
-use mir.ValLaws.{to_z_of_z}
+use mir.ValLaws.{to_z-of_z}
 use borrow.Author.Rules.{rules}
 use Rattle.integer.proofs.Machine.{back}
 use Rattle.affine.proofs.Rounding.{quotient_zero, remainder_zero}
@@ -13,7 +13,7 @@ use Rattle.affine.proofs.product.put_quotient.Statement.{statement}
 use Rattle.affine.proofs.product.put_quotient.Tie as tie
 
 total_is : (c : tie.Start) → to_z w64 (of_z w64 c.args.t) ≡ c.args.t
-total_is c = to_z_of_z w64 _ c.ranges.t
+total_is c = to_z-of_z w64 _ c.ranges.t
 
 is_zero : (c : tie.Then1) → c.before.args.t ≡ pos 0
 is_zero c = sym (total_is c.before) ∙ ap (to_z w64) c.if1.true

@@ -5,7 +5,7 @@ use native.Mathlib.Omega.{arith}
 use lib.IntN.{neg_ℤ, ◌+ℤ◌}
 use mir.Syntax.{w64}
 use mir.Val.{SFits, to_z, of_z}
-use mir.ValLaws.{to_z_of_z}
+use mir.ValLaws.{to_z-of_z}
 use borrow.Author.Rules.{rules}
 use Rattle.integer.specs.Floor.{floor_quotient}
 use Rattle.integer.proofs.Absolute.{fits_within}
@@ -39,8 +39,8 @@ sum_is c =
     let s = c.before.before in
     ap₂ ◌+ℤ◌
     (back c.before.candidate-slope.type-inv
-    ∙ (rw (to_z_of_z w64 _ s.ranges.c, to_z_of_z w64 _ s.ranges.p) at c.before.candidate-slope.ensures))
-    (back c.candidate-bend.type-inv ∙ (rw (to_z_of_z w64 _ s.ranges.c, to_z_of_z w64 _ s.ranges.met) at c.candidate-bend.ensures))
+    ∙ (rw (to_z-of_z w64 _ s.ranges.c, to_z-of_z w64 _ s.ranges.p) at c.before.candidate-slope.ensures))
+    (back c.candidate-bend.type-inv ∙ (rw (to_z-of_z w64 _ s.ranges.c, to_z-of_z w64 _ s.ranges.met) at c.candidate-bend.ensures))
 
 add_result : tie.Need-overflow-add-result
 add_result c = rw (sum_is c) (sum_fits c.before.before)

@@ -4,7 +4,7 @@ use native.Mathlib.Omega.{arith}
 use lib.IntN.{pos, neg_ℤ, ◌*ℤ◌}
 use mir.Syntax.{w64}
 use mir.Val.{to_z, of_z}
-use mir.ValLaws.{to_z_of_z}
+use mir.ValLaws.{to_z-of_z}
 use borrow.Author.Rules.{rules}
 use Rattle.integer.proofs.Machine.{back, operation_gives}
 use Rattle.affine.specs.Limits.{unit_squared, span_limit}
@@ -14,7 +14,7 @@ use Rattle.affine.proofs.reciprocal.candidate_slope.Statement.{statement}
 use Rattle.affine.proofs.reciprocal.candidate_slope.Tie as tie
 
 is_zero : (c : tie.Then1) → c.before.args.v ≡ pos 0
-is_zero c = sym (to_z_of_z w64 _ c.before.ranges.v) ∙ ap (to_z w64) c.if1.true
+is_zero c = sym (to_z-of_z w64 _ c.before.ranges.v) ∙ ap (to_z w64) c.if1.true
 
 returns : tie.Need-returns
 returns c = rw (is_zero c) (sym (slope_zero c.before.args.c))
@@ -26,7 +26,7 @@ size c =
     slope_size span_limit c.args.c c.args.v (omega arith) (omega arith) p.0 p.1 p.2
 
 top_is : (c : tie.Start) → to_z w64 (of_z w64 (neg_ℤ (pos unit_squared) *ℤ to_z w64 (of_z w64 c.args.v))) ≡ neg_ℤ (pos unit_squared) *ℤ c.args.v
-top_is c = rw (to_z_of_z w64 _ c.ranges.v) (to_z_of_z w64 _ (size c).top_fits)
+top_is c = rw (to_z-of_z w64 _ c.ranges.v) (to_z-of_z w64 _ (size c).top_fits)
 
 square_is : (c : tie.Start) → to_z w64 (of_z w64 (to_z w64 (of_z w64 c.args.c) *ℤ to_z w64 (of_z w64 c.args.c))) ≡ c.args.c *ℤ c.args.c
 square_is c = operation_gives ◌*ℤ◌ c.ranges.c c.ranges.c (size c).square_fits
@@ -35,7 +35,7 @@ sub_floor_quotient : tie.Need-overflow-sub-floor-quotient
 sub_floor_quotient c = search rules
 
 mul_floor_quotient : tie.Need-overflow-mul-floor-quotient
-mul_floor_quotient c = rw (to_z_of_z w64 _ c.before.ranges.v) (size c.before).top_fits
+mul_floor_quotient c = rw (to_z-of_z w64 _ c.before.ranges.v) (size c.before).top_fits
 
 mul_floor_quotient_2 : tie.Need-overflow-mul-floor-quotient-2
 mul_floor_quotient_2 c = let w = size c.before in search rules

@@ -5,7 +5,7 @@ use native.Mathlib.Omega.{arith}
 use lib.IntN.{pos, nat_abs, ◌*ℤ◌}
 use mir.Syntax.{w64}
 use mir.Val.{SFits, to_z, of_z}
-use mir.ValLaws.{to_z_of_z}
+use mir.ValLaws.{to_z-of_z}
 use borrow.Author.Rules.{rules}
 use Rattle.integer.specs.Sum.{sum_abs}
 use Rattle.integer.proofs.Absolute.{nat_abs_sub_within, fits_within}
@@ -61,10 +61,10 @@ absolute_requires c κs = search rules
 
 -- ---- the sums of the totals, of the parts of both rows as they are lent
 c_is : (c : tie.Start) → to_z w64 (of_z w64 c.args.c) ≡ c.args.c
-c_is c = to_z_of_z w64 _ c.ranges.c
+c_is c = to_z-of_z w64 _ c.ranges.c
 
 d_is : (c : tie.Start) → to_z w64 (of_z w64 c.args.d) ≡ c.args.d
-d_is c = to_z_of_z w64 _ c.ranges.d
+d_is c = to_z-of_z w64 _ c.ranges.d
 
 linear_bound_requires : tie.Need-linear-bound-requires
 linear_bound_requires c κs =
@@ -100,7 +100,7 @@ sum_is c =
     let s = start c in
     let p = s.pre.1 in
     let squares = s.args.squares in
-    let centre = rw (product_is s, to_z_of_z w64 _ (less_fits s)) at c.before.before.before.absolute.ensures in
+    let centre = rw (product_is s, to_z-of_z w64 _ (less_fits s)) at c.before.before.before.absolute.ensures in
     let linear = c.before.before.linear-bound.ensures ∙ ap sum_abs (linear_totals_of_parts (x s) (z s) (c_is s) (d_is s)) in
     let pair = c.before.pair-bound.ensures ∙ ap sum_abs (pair_totals_of_parts (x s) (z s) (c_is s) (d_is s) squares) in
     let dropped = c.dropped-part.ensures ∙ dropped_of_radii squares (x s) (z s) p.0.2 p.1.2 in

@@ -6,7 +6,7 @@ use lib.IntN.{ℤ}
 use lib.ListN.{length, set}
 use mir.Syntax.{w64}
 use mir.Val.{to_z, of_z}
-use mir.ValLaws.{to_z_of_z}
+use mir.ValLaws.{to_z-of_z}
 use borrow.Author.Rules.{rules}
 use Rattle.integer.proofs.Machine.{back}
 use Rattle.affine.specs.declared.Row.{Row}
@@ -33,7 +33,7 @@ abbrev x : tie.Start invariant_loop decreases_loop → Row
 x c = row_of_parts c.args.c c.args.a.now c.args.p.now
 
 c_is : (c : tie.Start invariant_loop decreases_loop) → to_z w64 (of_z w64 c.args.c) ≡ c.args.c
-c_is c = to_z_of_z w64 _ c.ranges.c
+c_is c = to_z-of_z w64 _ c.ranges.c
 
 loop_holds : tie.Need-loop-init invariant_loop decreases_loop
 unfolding candidate_pair

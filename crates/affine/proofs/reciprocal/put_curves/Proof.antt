@@ -6,7 +6,7 @@ use native.Mathlib.Omega.{arith}
 use lib.ListN.{length}
 use mir.Syntax.{w64}
 use mir.Val.{to_z, of_z}
-use mir.ValLaws.{to_z_of_z}
+use mir.ValLaws.{to_z-of_z}
 use borrow.Author.Rules.{rules}
 use Rattle.affine.specs.Row.{row_of_parts}
 use Rattle.affine.specs.Reciprocal.{candidate_pair}
@@ -22,7 +22,7 @@ abbrev decreases_loop : tie.decreases-loop
 decreases_loop out₀ c a p z squares j₀ out j = squares - j
 
 c_is : (c : tie.Start invariant_loop decreases_loop) → to_z w64 (of_z w64 c.args.c) ≡ c.args.c
-c_is c = to_z_of_z w64 _ c.ranges.c
+c_is c = to_z-of_z w64 _ c.ranges.c
 
 loop_holds : tie.Need-loop-init invariant_loop decreases_loop
 unfolding candidate_pair

@@ -7,7 +7,7 @@ use lib.IntN.{ℤ}
 use lib.ListN.{length, set}
 use mir.Syntax.{w64}
 use mir.Val.{to_z, of_z}
-use mir.ValLaws.{to_z_of_z}
+use mir.ValLaws.{to_z-of_z}
 use borrow.Author.Rules.{rules}
 use Rattle.integer.proofs.Machine.{back}
 use Rattle.affine.specs.Limits.{symbols}
@@ -46,7 +46,7 @@ abbrev turn : tie.After-v invariant_loop decreases_loop → tie.At-loop invarian
 turn c = c.before.before
 
 c_is : (c : tie.Start invariant_loop decreases_loop) → to_z w64 (of_z w64 c.args.c) ≡ c.args.c
-c_is c = to_z_of_z w64 _ c.ranges.c
+c_is c = to_z-of_z w64 _ c.ranges.c
 
 v_is : (c : tie.After-v invariant_loop decreases_loop)
     → to_z w64 (of_z w64 (at (turn c).before.args.a.now (turn c).loop.i)) ≡ at (turn c).before.args.a.now (turn c).loop.i

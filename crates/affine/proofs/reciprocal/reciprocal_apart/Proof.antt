@@ -9,7 +9,7 @@ use lib.IntN.{pos}
 use lib.ListN.{length}
 use mir.Syntax.{w64}
 use mir.Val.{SFits, to_z, of_z}
-use mir.ValLaws.{to_z_of_z, to_z_pos}
+use mir.ValLaws.{to_z-of_z, to_z_pos}
 use Rattle.integer.specs.Floor.{ceiling_quotient}
 use Rattle.integer.proofs.Floor.{ceiling_at_most}
 use Rattle.affine.specs.declared.Row.{Row}
@@ -51,7 +51,7 @@ made_pairs c = search rules
 
 -- its parts, as they are lent
 lent : (c : tie.After-candidate-row) → row_of_parts (to_z w64 (of_z w64 (made c).centre)) (made c).linear (made c).pair ≡ wanted c.before
-lent c = rw (to_z_of_z w64 _ (made_fits c)) c.candidate-row.ensures
+lent c = rw (to_z-of_z w64 _ (made_fits c)) c.candidate-row.ensures
 
 measure_requires : tie.Need-measure-requires
 measure_requires c κs =
@@ -100,7 +100,7 @@ error_bound_requires c κs =
     let m = from t in
     let s = m.before in
     let (squares_few, own_small, x_within, x_radius_is, none) = s.pre.0 in
-    rw (lent m, to_z_of_z w64 _ (x_fits s)) (
+    rw (lent m, to_z-of_z w64 _ (x_fits s)) (
       (squares_few, omega arith, none, none_made m),
       ((x_long s, x_within, x_radius_is), (made_long m, kept e, radius_measured (wanted s) (told t))),
     )
@@ -120,7 +120,7 @@ bound_is : (c : tie.After-error-bound)
     c.error-bound.result ≡ error_bound s.args.squares s.args.t1 (wanted s)
 bound_is c =
     let m = root c in
-    rw (lent m, to_z_of_z w64 _ (x_fits m.before)) at c.error-bound.ensures
+    rw (lent m, to_z-of_z w64 _ (x_fits m.before)) at c.error-bound.ensures
 
 bound_within : (c : tie.After-error-bound) → c.error-bound.result ≤ span_limit * span_limit + unit_squared
 bound_within c =

@@ -3,7 +3,7 @@ use mathlib.Core.Path.{◌≡◌, sym, ap, ◌∙◌}
 use Prim.Native.Nat.{◌≤◌, ◌<◌}
 use native.Mathlib.Omega.{arith}
 use lib.IntN.{pos}
-use lib.ListN.{length, replicate, get_or_eq_default}
+use lib.ListN.{length, replicate, get_or-eq_default}
 use mir.Syntax.{w64}
 use mir.Val.{to_z, of_z}
 use mir.ValLaws.{to_z_pos}
@@ -75,7 +75,7 @@ put_root_slopes_requires_2 c κs =
     let o = rooted (slopes c).before in
     let t = o.before in
     let l = (long t).1 in (
-      (omega arith, ap (λ n. replicate n (pos 0)) (sym l), λ k h. get_or_eq_default (x t).pair (pos 0) (omega arith)),
+      (omega arith, ap (λ n. replicate n (pos 0)) (sym l), λ k h. get_or-eq_default (x t).pair (pos 0) (omega arith)),
       ((z_size o).0, (z_size o).1, pair_within (x t) t.before.pre.2),
     )
 

@@ -10,7 +10,7 @@ use lib.ListN.{length}
 use lib.Signed.{lt_z, ◌≤ℤ◌}
 use mir.Syntax.{w64}
 use mir.Val.{SFits, to_z, of_z}
-use mir.ValLaws.{to_z_of_z, to_z_pos}
+use mir.ValLaws.{to_z-of_z, to_z_pos}
 use Rattle.integer.specs.Floor.{ceiling_quotient}
 use Rattle.integer.proofs.Floor.{ceiling_at_most}
 use Rattle.integer.proofs.Order.{≤ℤ_trans}
@@ -55,7 +55,7 @@ made_pairs c = search rules
 
 -- its parts, as they are lent
 lent : (c : tie.After-root-candidate) → row_of_parts (to_z w64 (of_z w64 (made c).centre)) (made c).linear (made c).pair ≡ wanted c.before
-lent c = rw (to_z_of_z w64 _ (made_fits c)) c.root-candidate.ensures
+lent c = rw (to_z-of_z w64 _ (made_fits c)) c.root-candidate.ensures
 
 measure_requires : tie.Need-measure-requires
 measure_requires c κs =
@@ -99,7 +99,7 @@ low_fits c = search rules
 low_is : (c : tie.After-struct-told2) → lt_z (to_z w64 (of_z w64 (else c).before.before.measure.result.range.low)) (pos 0) ≡ starts_below_zero (wanted (root c).before)
 low_is c =
     ap (λ z. lt_z z (pos 0))
-    (to_z_of_z w64 _ (low_fits c) ∙ ap (λ (r : Range). r.low) (range_measured (wanted (root c).before) (told (else c).before.before) (inside (else c))))
+    (to_z-of_z w64 _ (low_fits c) ∙ ap (λ (r : Range). r.low) (range_measured (wanted (root c).before) (told (else c).before.before) (inside (else c))))
 
 below : (c : tie.Then2) → starts_below_zero (wanted (root c.before).before) ≡ true
 below c = sym (low_is c.before) ∙ c.if2.true
@@ -130,7 +130,7 @@ square_error_requires c κs =
     let m = root e in
     let s = m.before in
     let (squares_few, own_small, x_within, none, some, from_low) = s.pre in
-    rw (lent m, to_z_of_z w64 _ (x_fits s)) (
+    rw (lent m, to_z-of_z w64 _ (x_fits s)) (
       (squares_few, omega arith, none, none_made m),
       ((made_long m, x_within), (kept (else e), radius_measured (wanted s) (told (else e).before.before))),
     )
@@ -141,7 +141,7 @@ start c = (root (tested c.before).before).before
 bound_is : (c : tie.After-square-error) → c.square-error.result ≡ square_error (start c).args.squares (start c).args.t1 (wanted (start c))
 bound_is c =
     let m = root (tested c.before).before in
-    rw (lent m, to_z_of_z w64 _ (x_fits m.before)) at c.square-error.ensures
+    rw (lent m, to_z-of_z w64 _ (x_fits m.before)) at c.square-error.ensures
 
 bound_within : (c : tie.After-square-error) → c.square-error.result ≤ span_limit * span_limit + unit * span_limit
 bound_within c =
@@ -150,7 +150,7 @@ bound_within c =
 
 -- ---- what it is divided by
 least_is : (c : tie.Start) → to_z w64 (of_z w64 c.args.least) ≡ c.args.least
-least_is c = to_z_of_z w64 _ c.ranges.least
+least_is c = to_z-of_z w64 _ c.ranges.least
 
 unit_root_requires : tie.Need-unit-root-requires
 unit_root_requires c κs =

@@ -5,7 +5,7 @@ use native.Mathlib.Omega.{arith}
 use lib.IntN.{pos, ◌*ℤ◌}
 use mir.Syntax.{w64}
 use mir.Val.{SFits, to_z, of_z}
-use mir.ValLaws.{to_z_of_z, to_z_pos}
+use mir.ValLaws.{to_z-of_z, to_z_pos}
 use borrow.Author.Rules.{rules}
 use Rattle.integer.proofs.Absolute.{fits_within}
 use Rattle.integer.proofs.Machine.{back}
@@ -17,7 +17,7 @@ use Rattle.affine.proofs.root.root_slope.Statement.{statement}
 use Rattle.affine.proofs.root.root_slope.Tie as tie
 
 is_zero : (c : tie.Then1) → c.before.args.v ≡ pos 0
-is_zero c = sym (to_z_of_z w64 _ c.before.ranges.v) ∙ ap (to_z w64) c.if1.true
+is_zero c = sym (to_z-of_z w64 _ c.before.ranges.v) ∙ ap (to_z w64) c.if1.true
 
 returns : tie.Need-returns
 returns c = rw (is_zero c) (sym (root_slope_zero c.before.args.z))
@@ -27,13 +27,13 @@ top_fits : (c : tie.Start) → SFits w64 (pos half_unit *ℤ c.args.v)
 top_fits c = fits_within (pos half_unit *ℤ c.args.v) (half_unit * span_limit) (half_unit_within c.args.v c.requires.2) (omega arith)
 
 top_is : (c : tie.Start) → to_z w64 (of_z w64 (pos half_unit *ℤ to_z w64 (of_z w64 c.args.v))) ≡ pos half_unit *ℤ c.args.v
-top_is c = rw (to_z_of_z w64 _ c.ranges.v) (to_z_of_z w64 _ (top_fits c))
+top_is c = rw (to_z-of_z w64 _ c.ranges.v) (to_z-of_z w64 _ (top_fits c))
 
 z_is : (c : tie.Start) → to_z w64 c.args.z ≡ pos c.args.z
 z_is c = to_z_pos w64 c.args.z (omega (arith, c.requires.1))
 
 mul_floor_quotient : tie.Need-overflow-mul-floor-quotient
-mul_floor_quotient c = rw (to_z_of_z w64 _ c.before.ranges.v) (top_fits c.before)
+mul_floor_quotient c = rw (to_z-of_z w64 _ c.before.ranges.v) (top_fits c.before)
 
 cast_floor_quotient : tie.Need-overflow-cast-floor-quotient
 cast_floor_quotient c = search rules

@@ -5,7 +5,7 @@ use native.Mathlib.Omega.{arith}
 use lib.IntN.{nat_abs, ◌*ℤ◌}
 use mir.Syntax.{w64}
 use mir.Val.{SFits, to_z, of_z}
-use mir.ValLaws.{to_z_of_z}
+use mir.ValLaws.{to_z-of_z}
 use borrow.Author.Rules.{rules}
 use Rattle.integer.specs.Sum.{sum_abs}
 use Rattle.integer.proofs.Absolute.{fits_within}
@@ -41,7 +41,7 @@ square_fits : (c : tie.Start) → SFits w64 (c.args.z *ℤ c.args.z)
 square_fits c = fits_within (c.args.z *ℤ c.args.z) (span_limit * span_limit) (square_within c) (omega arith)
 
 c_is : (c : tie.Start) → to_z w64 (of_z w64 c.args.c) ≡ c.args.c
-c_is c = to_z_of_z w64 _ c.ranges.c
+c_is c = to_z-of_z w64 _ c.ranges.c
 
 square_is : (c : tie.Start)
     → to_z w64 (of_z w64 (to_z w64 (of_z w64 c.args.z) *ℤ to_z w64 (of_z w64 c.args.z))) ≡ c.args.z *ℤ c.args.z
@@ -58,7 +58,7 @@ absolute_requires c κs = search rules
 
 -- ---- what the other totals miss, of the parts of both rows as they are lent
 z_is : (c : tie.Start) → to_z w64 (of_z w64 c.args.z) ≡ c.args.z
-z_is c = to_z_of_z w64 _ c.ranges.z
+z_is c = to_z-of_z w64 _ c.ranges.z
 
 linear_missed_requires : tie.Need-linear-missed-requires
 linear_missed_requires c κs =

@@ -3,7 +3,7 @@ use mathlib.Core.Path.{sym, ◌∙◌}
 use native.Mathlib.Omega.{arith}
 use lib.Signed.{yes_non_neg}
 use mir.Syntax.{w64}
-use mir.ValLaws.{to_z_of_z}
+use mir.ValLaws.{to_z-of_z}
 use borrow.Author.Rules.{rules}
 use Rattle.integer.proofs.Order.{≤ℤ_trans, pos-≤ℤ}
 use Rattle.affine.proofs.RootCandidate.{unit_root_is}
@@ -13,16 +13,16 @@ use Rattle.affine.proofs.root.unit_root.Tie as tie
 cast_root : tie.Need-overflow-cast-root
 cast_root c =
     let p = c.requires in
-    rw (to_z_of_z w64 _ c.ranges.v) (yes_non_neg (≤ℤ_trans (pos-≤ℤ (omega arith)) p.0), record { fits = omega (arith, p.1) })
+    rw (to_z-of_z w64 _ c.ranges.v) (yes_non_neg (≤ℤ_trans (pos-≤ℤ (omega arith)) p.0), record { fits = omega (arith, p.1) })
 
 mul_root : tie.Need-overflow-mul-root
-mul_root c = rw (to_z_of_z w64 _ c.ranges.v) (record { fits = omega (arith, c.requires.1) })
+mul_root c = rw (to_z-of_z w64 _ c.ranges.v) (record { fits = omega (arith, c.requires.1) })
 
 root_requires : tie.Need-root-requires
 root_requires c κs = search rules
 
 returns : tie.Need-returns
-returns c = (rw (to_z_of_z w64 _ c.before.ranges.v) at c.root.ensures) ∙ sym (unit_root_is c.before.requires.0)
+returns c = (rw (to_z-of_z w64 _ c.before.ranges.v) at c.root.ensures) ∙ sym (unit_root_is c.before.requires.0)
 
 pub unit_root_spec : {M : Type 1} → statement M
 unit_root_spec = tie.close (tie.spec cast_root mul_root root_requires returns)

@@ -3,7 +3,7 @@ use mathlib.Core.Path.{◌≡◌, ◌∙◌}
 use lib.ListN.{length}
 use mir.Syntax.{w64}
 use mir.Val.{SFits}
-use mir.ValLaws.{to_z_of_z}
+use mir.ValLaws.{to_z-of_z}
 use Rattle.affine.specs.Limits.{pairs}
 use Rattle.affine.specs.Measured.{measured}
 use Rattle.affine.proofs.Answers.{radius_measured, answer_measured}
@@ -18,13 +18,13 @@ pair_long : (c : tie.Start) → length c.args.t1.pair ≡ pairs
 pair_long c = search rules
 
 measure_requires : tie.Need-measure-requires
-measure_requires c κs = let s = c.before.before.before.before in (pair_long s, rw (to_z_of_z w64 _ (centre_fits s)) s.requires)
+measure_requires c κs = let s = c.before.before.before.before in (pair_long s, rw (to_z-of_z w64 _ (centre_fits s)) s.requires)
 
 abbrev start : tie.After-measure → tie.Start
 start c = c.before.before.before.before.before
 
 told : (c : tie.After-measure) → c.measure.result ≡ measured (start c).args.t1
-told c = rw (to_z_of_z w64 _ (centre_fits (start c))) at c.measure.ensures
+told c = rw (to_z-of_z w64 _ (centre_fits (start c))) at c.measure.ensures
 
 answer_requires : tie.Need-answer-requires
 answer_requires c κs = radius_measured (start c.before).args.t1 (told c.before)

@@ -1,7 +1,7 @@
 -- `steps::constant` meets its contract: what `check` answers of the constant's row.
 use mathlib.Core.Path.{◌≡◌}
 use mir.Syntax.{w64}
-use mir.ValLaws.{to_z_of_z}
+use mir.ValLaws.{to_z-of_z}
 use native.Mathlib.Omega.{arith}
 use Rattle.integer.proofs.Absolute.{nat_abs_of_fits}
 use Rattle.affine.specs.Steps.{constant_row}
@@ -14,7 +14,7 @@ constant_row_requires : tie.Need-constant-row-requires
 constant_row_requires c κs = search rules
 
 row_is : (c : tie.After-constant-row) → c.constant-row.result ≡ constant_row c.before.args.v
-row_is c = rw (to_z_of_z w64 c.before.args.v c.before.ranges.v) at c.constant-row.ensures
+row_is c = rw (to_z-of_z w64 c.before.args.v c.before.ranges.v) at c.constant-row.ensures
 
 check_requires : tie.Need-check-requires
 check_requires c κs =

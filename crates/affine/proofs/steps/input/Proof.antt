@@ -6,7 +6,7 @@ use lib.Dec.{leb}
 use lib.IntN.{ℤ, pos, nat_abs, ◌+ℤ◌, ◌-ℤ◌}
 use mir.Syntax.{w64}
 use mir.Val.{SFits, to_z, of_z}
-use mir.ValLaws.{to_z_of_z}
+use mir.ValLaws.{to_z-of_z}
 use Rattle.integer.specs.Floor.{floor_quotient}
 use Rattle.integer.proofs.Machine.{back_as, operation_fits, operation_gives}
 use Rattle.affine.specs.declared.Row.{Row}
@@ -114,7 +114,7 @@ returns c =
     let s = start a in
     c.answer.ensures
     ∙ λ i. pick (leb (span_is a i) span_limit)
-    (accepted (row_is a.before.before i) (record { low = to_z_of_z w64 _ s.fits.low i; high = to_z_of_z w64 _ s.fits.high i }))
+    (accepted (row_is a.before.before i) (record { low = to_z-of_z w64 _ s.fits.low i; high = to_z-of_z w64 _ s.fits.high i }))
     (refused SpanPassed)
 
 pub input_spec : {M : Type 1} → statement M

@@ -4,7 +4,7 @@ use Prim.Native.Nat.{◌+◌}
 use native.Mathlib.Omega.{arith}
 use lib.IntN.{nat_abs}
 use mir.Syntax.{w64}
-use mir.ValLaws.{to_z_of_z}
+use mir.ValLaws.{to_z-of_z}
 use Rattle.integer.proofs.Absolute.{nat_abs_of_fits}
 use Rattle.affine.proofs.CappedLaws.{capped_below, capped_above}
 use borrow.Author.Rules.{rules}
@@ -16,7 +16,7 @@ absolute_requires c κs = search rules
 
 -- what is added
 added : (c : tie.After-absolute) → c.absolute.result ≡ nat_abs c.before.args.v
-added c = rw (to_z_of_z w64 _ c.before.ranges.v) at c.absolute.ensures
+added c = rw (to_z-of_z w64 _ c.before.ranges.v) at c.absolute.ensures
 
 add_s : tie.Need-overflow-add-s
 add_s c = omega (arith, added c, nat_abs_of_fits c.before.args.v c.before.ranges.v)

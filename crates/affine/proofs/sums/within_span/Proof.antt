@@ -2,7 +2,7 @@
 use lib.IntN.{nat_abs}
 use mir.Syntax.{w64}
 use mir.Val.{SFits}
-use mir.ValLaws.{to_z_of_z}
+use mir.ValLaws.{to_z-of_z}
 use borrow.Author.Rules.{rules}
 use Rattle.integer.specs.Sum.{sum_abs}
 use Rattle.affine.proofs.CappedLaws.{capped_le, capped_parts}
@@ -27,7 +27,7 @@ returns c =
     let l = c.before.before.before.before in
     let s = l.before.before.before.before.before.before in
     let r = s.args.t1 in
-    rw (c.capped-absolutes2.ensures, l.capped-absolutes.ensures, l.before.before.before.before.capped-sum.ensures, to_z_of_z w64 r.centre (centre s), span_is_sum r)
+    rw (c.capped-absolutes2.ensures, l.capped-absolutes.ensures, l.before.before.before.before.capped-sum.ensures, to_z-of_z w64 r.centre (centre s), span_is_sum r)
     (capped_parts (nat_abs r.centre) (sum_abs r.linear) (sum_abs r.pair))
 
 pub within_span_spec : {M : Type 1} → statement M

@@ -7,7 +7,7 @@ use native.Mathlib.Omega.{arith}
 use lib.IntN.{ℤ}
 use mir.Syntax.{w64}
 use mir.Val.{SFits}
-use mir.ValLaws.{to_z_of_z}
+use mir.ValLaws.{to_z-of_z}
 use Rattle.affine.specs.declared.Range.{Range}
 use Rattle.affine.specs.Limits.{span_limit}
 use Rattle.interval.specs.Interval.{RangeWithin}
@@ -50,7 +50,7 @@ unfolding plain_step
 returns c =
     let s = c.before.before.before in
     let value : interval.exactly (t s).value ≡ plain_step (t s) (x s) (y s) = rw (number_is (fields_fit s).0 (omega arith) c.before.if1.taken) in
-    rw (to_z_of_z w64 _ (value_fits s)) value
+    rw (to_z-of_z w64 _ (value_fits s)) value
 
 -- ---- the first range
 abbrev start : tie.After-struct-told3 → tie.Start

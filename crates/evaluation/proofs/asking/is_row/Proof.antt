@@ -1,10 +1,10 @@
 -- `asking::is_row` meets its contract: by the result of its first test.
-use borrow.Author.Tests.{le_leb, lt-leb}
+use borrow.Author.Tests.{le-leb, lt-leb}
 use Rattle.evaluation.proofs.asking.is_row.Statement.{statement}
 use Rattle.evaluation.proofs.asking.is_row.Tie as tie
 
 returns : tie.Need-returns
-returns c = simp (le_leb 1 c.before.args.row c.if1.true)
+returns c = simp (le-leb 1 c.before.args.row c.if1.true)
 
 returns_2 : tie.Need-returns-2
 returns_2 c = simp (lt-leb 1 c.before.args.row c.if1.false)

@@ -1,7 +1,7 @@
 -- `asking::ranges_refusal` meets its contract: by the test of the length.
 use Prim.Native.Nat.{◌*◌}
 use borrow.Author.Rules.{rules}
-use borrow.Author.Tests.{le_leb, lt-leb}
+use borrow.Author.Tests.{le-leb, lt-leb}
 use lib.ListN.{length}
 use Rattle.evaluation.specs.Table.{range_width}
 use Rattle.evaluation.proofs.asking.ranges_refusal.Statement.{statement}
@@ -14,7 +14,7 @@ returns : tie.Need-returns
 returns c = let s = c.before in simp (lt-leb (range_width * s.args.count) (length s.args.ranges.now) c.if1.taken)
 
 returns_2 : tie.Need-returns-2
-returns_2 c = let s = c.before in simp (le_leb (range_width * s.args.count) (length s.args.ranges.now) c.if1.left)
+returns_2 c = let s = c.before in simp (le-leb (range_width * s.args.count) (length s.args.ranges.now) c.if1.left)
 
 pub ranges_refusal_spec : {M : Type 1} → statement M
 ranges_refusal_spec = tie.close (tie.spec mul_if1 returns returns_2)

@@ -3,7 +3,7 @@ use mathlib.Core.Path.{◌≡◌}
 use mathlib.Core.Bool.{true, false}
 use Prim.Native.Nat.{◌*◌}
 use borrow.Author.Rules.{rules}
-use borrow.Author.Tests.{le_leb, lt-leb, not-true, not-false}
+use borrow.Author.Tests.{le-leb, lt-leb, not-true, not-false}
 use lib.Dec.{leb}
 use lib.ListN.{length}
 use Rattle.affine.specs.Limits.{symbols}
@@ -18,7 +18,7 @@ known : (c : tie.Else1) → c.before.args.known ≡ true
 known c = not-false _ c.if1.false
 
 few : (c : tie.Else2) → leb c.before.before.args.count symbols ≡ true
-few c = le_leb _ _ c.if2.false
+few c = le-leb _ _ c.if2.false
 
 returns : tie.Need-returns
 returns c = simp (unknown c)
@@ -37,7 +37,7 @@ returns_3 c =
 returns_4 : tie.Need-returns-4
 returns_4 c =
     let s = c.before.before.before in
-    simp (known c.before.before, few c.before, le_leb (row_width * s.args.count) (length s.args.table.now) c.if3.false)
+    simp (known c.before.before, few c.before, le-leb (row_width * s.args.count) (length s.args.table.now) c.if3.false)
 
 pub table_refusal_spec : {M : Type 1} → statement M
 table_refusal_spec = tie.close (tie.spec returns returns_2 mul_if3 returns_3 returns_4)

@@ -6,7 +6,7 @@ use native.Mathlib.Omega.{arith}
 use lib.IntN.{nat_abs}
 use mir.Syntax.{w64}
 use mir.Val.{SFits, to_z, of_z}
-use mir.ValLaws.{to_z_of_z}
+use mir.ValLaws.{to_z-of_z}
 use Rattle.sheet.specs.Lines.{natural}
 use Rattle.sheet.specs.Limits.{last_binary}
 use Rattle.sheet.proofs.Passing.{Natural}
@@ -59,7 +59,7 @@ returns c =
     let s = c.before.before.before.before.before in
     constant_step s.args.squares s.args.table.now s.args.ranges.now s.args.own s.args.t
     (number_is (fields_fit s).0 (omega arith) c.before.before.if1.taken)
-    (rw (to_z_of_z w64 _ (value_fits s)) at c.constant.ensures)
+    (rw (to_z-of_z w64 _ (value_fits s)) at c.constant.ensures)
 
 cast_first : tie.Need-cast-first
 cast_first c = (first_cast c).fits
@@ -83,7 +83,7 @@ returns_2 c =
     (number_above (fields_fit s).0 t.if2.taken)
     (named_is (first_named f) (first_cast f).is s.args.table.now)
     (named_range_is (first_named f) (first_cast f).is s.args.ranges.now)
-    (rw (to_z_of_z w64 _ (fields_fit s).0) at c.unary-answer.ensures)
+    (rw (to_z-of_z w64 _ (fields_fit s).0) at c.unary-answer.ensures)
 
 cast_second : tie.Need-cast-second
 cast_second c = (second_cast c).fits
@@ -107,7 +107,7 @@ returns_3 c =
     binary_step s.args.squares s.args.table.now s.args.ranges.now s.args.own s.args.t (not_constant f) (binary p)
     (named_is (first_named f) (first_cast f).is s.args.table.now)
     (named_is (second_named p) (second_cast p).is s.args.table.now)
-    (rw (to_z_of_z w64 _ (fields_fit s).0) at c.binary-answer.ensures)
+    (rw (to_z-of_z w64 _ (fields_fit s).0) at c.binary-answer.ensures)
 
 pub step_answer_spec : {M : Type 1} → statement M
 step_answer_spec =

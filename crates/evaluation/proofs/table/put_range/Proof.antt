@@ -4,7 +4,7 @@ use native.Mathlib.Omega.{arith}
 use lib.ListN.{length-set}
 use mir.Syntax.{w64}
 use mir.Val.{SFits}
-use mir.ValLaws.{to_z_of_z}
+use mir.ValLaws.{to_z-of_z}
 use Rattle.evaluation.specs.Table.{range_width}
 use Rattle.evaluation.proofs.Pasted.{two_pasted}
 use borrow.Author.Rules.{rules}
@@ -41,7 +41,7 @@ same_length c = search rules
 returns : tie.Need-returns
 returns c =
     let s = c.before.before in
-    rw (to_z_of_z w64 _ (low_fits s), to_z_of_z w64 _ (high_fits s)) (two_pasted s.args.ranges.now (range_width * s.args.k) s.args.r.low s.args.r.high s.pre)
+    rw (to_z-of_z w64 _ (low_fits s), to_z-of_z w64 _ (high_fits s)) (two_pasted s.args.ranges.now (range_width * s.args.k) s.args.r.low s.args.r.high s.pre)
 
 pub put_range_spec : {M : Type 1} → statement M
 put_range_spec =

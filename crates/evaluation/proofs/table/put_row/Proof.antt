@@ -7,7 +7,7 @@ use lib.ListN.{length, set, length-set}
 use lib.Seq.{paste}
 use mir.Syntax.{w64}
 use mir.Val.{SFits}
-use mir.ValLaws.{to_z_of_z}
+use mir.ValLaws.{to_z-of_z}
 use Rattle.affine.specs.Limits.{symbols, pairs}
 use Rattle.affine.proofs.Form.{Shaped}
 use Rattle.evaluation.specs.Table.{row_width}
@@ -73,7 +73,7 @@ returns c =
     let r = s.args.r in
     let at = row_width * s.args.k in
     let linear_put : (called c).put_numbers.new.0 ≡ paste (set t at r.centre) (at + 1) r.linear (length r.linear) =
-    rw (to_z_of_z w64 _ (centre_fits s)) at (called c).put_numbers.ensures in
+    rw (to_z-of_z w64 _ (centre_fits s)) at (called c).put_numbers.ensures in
     let pair_put : c.before.put-numbers2.new.0 ≡ paste (called c).put_numbers.new.0 (at + 1 + symbols) r.pair (length r.pair) =
     c.before.put-numbers2.ensures in
     three_pasted t at r.centre r.linear r.pair _ _ symbols pairs (row_shaped s).linear (row_shaped s).pair (omega arith) linear_put pair_put

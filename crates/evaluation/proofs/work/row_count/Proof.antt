@@ -5,7 +5,7 @@ use native.Mathlib.Omega.{arith}
 use lib.IntN.{ℤ, pos, negsuc}
 use mir.Syntax.{w64}
 use mir.Val.{SFits}
-use mir.ValLaws.{to_z_of_z}
+use mir.ValLaws.{to_z-of_z}
 use borrow.Author.Rules.{rules}
 use Rattle.sheet.specs.Lines.{natural}
 use Rattle.evaluation.proofs.work.row_count.Statement.{statement}
@@ -22,10 +22,10 @@ natural_below (pos n) f = f.sfits
 natural_below (negsuc n) f = omega arith
 
 inputs_counted : (c : tie.After-natural) → c.natural.result ≡ natural c.before.before.args.c.inputs
-inputs_counted c = rw (to_z_of_z w64 _ (inputs_fit c.before.before)) at c.natural.ensures
+inputs_counted c = rw (to_z-of_z w64 _ (inputs_fit c.before.before)) at c.natural.ensures
 
 steps_counted : (c : tie.After-natural2) → c.natural2.result ≡ natural c.before.before.before.before.args.c.steps
-steps_counted c = rw (to_z_of_z w64 _ (steps_fit c.before.before.before.before)) at c.natural2.ensures
+steps_counted c = rw (to_z-of_z w64 _ (steps_fit c.before.before.before.before)) at c.natural2.ensures
 
 natural_requires : tie.Need-natural-requires
 natural_requires c κs = search rules

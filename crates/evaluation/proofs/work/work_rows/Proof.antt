@@ -9,7 +9,7 @@ use lib.IntN.{ℤ, nat_abs}
 use lib.ListN.{length}
 use mir.Syntax.{w64}
 use mir.Val.{SFits, to_z, of_z}
-use mir.ValLaws.{to_z_of_z}
+use mir.ValLaws.{to_z-of_z}
 use Rattle.affine.specs.Limits.{symbols}
 use Rattle.affine.specs.Steps.{number}
 use Rattle.sheet.specs.declared.End.{End}
@@ -93,7 +93,7 @@ ends_passed c = (start c.before.before).pre.0.0.ends (index c.before) (is_input 
 
 -- an end that passed, as the code reads it
 end_is : (z : ℤ) → nat_abs z ≤ end_limit → to_z w64 (of_z w64 z) ≡ z
-end_is z h = to_z_of_z w64 z (fits_within z end_limit h (omega arith))
+end_is z h = to_z-of_z w64 z (fits_within z end_limit h (omega arith))
 
 low_is : (c : tie.Then1 invariant_loop decreases_loop) → to_z w64 (of_z w64 (ends c).low) ≡ (ends c).low
 low_is c = end_is (ends c).low (ends_passed c).low_in

@@ -2,7 +2,7 @@
 use mathlib.Core.Path.{ap, ◌∙◌}
 use mir.Syntax.{w64}
 use mir.Val.{SFits}
-use mir.ValLaws.{to_z_of_z}
+use mir.ValLaws.{to_z-of_z}
 use lib.IntN.{pos}
 use lib.ListN.{replicate}
 use Rattle.sheet.specs.Limits.{max_steps}
@@ -26,8 +26,8 @@ returns c =
     let f = counts_fit c.before.before.before in
     c.test.ensures
     ∙ ap test_of (λ i. record {
-      inputs = to_z_of_z w64 _ f.0 i;
-      squares = to_z_of_z w64 _ f.1 i;
+      inputs = to_z-of_z w64 _ f.0 i;
+      squares = to_z-of_z w64 _ f.1 i;
       steps = pos 1;
       ends = b.ends;
       step = replicate max_steps (step_of 1 0 0 0);

@@ -4,7 +4,7 @@ use Prim.Native.Nat.{ℕ, ◌≤◌}
 use native.Mathlib.Omega.{arith}
 use mir.Syntax.{w64}
 use mir.Val.{SFits}
-use mir.ValLaws.{to_z_of_z, to_z_pos}
+use mir.ValLaws.{to_z-of_z, to_z_pos}
 use lib.IntN.{pos}
 use lib.ListN.{length, get_or}
 use Rattle.sheet.specs.Limits.{max_steps}
@@ -72,8 +72,8 @@ returns_3 c = λ t n m.
     (λ i. record {
       refusal = accepted;
       schedule = record {
-        inputs = to_z_of_z w64 a.block.inputs fits.0 i;
-        squares = to_z_of_z w64 a.block.squares fits.1 i;
+        inputs = to_z-of_z w64 a.block.inputs fits.0 i;
+        squares = to_z-of_z w64 a.block.squares fits.1 i;
         steps = (to_z_pos w64 a.count (omega (arith, n, few)) ∙ ap pos n) i;
         ends = c.before.before.ends-within.ensures i;
         step = (held ∙ ap (λ (k : ℕ). up_to max_steps k (λ j. get_or steps j zero_step) zero_step) long) i;

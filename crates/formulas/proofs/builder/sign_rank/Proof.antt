@@ -1,7 +1,7 @@
 -- `sign_rank` makes the test of `sign_rank`.
 use mathlib.Core.Path.{◌≡◌, ◌∙◌}
 use Prim.Native.Nat.{◌≤◌, ◌<◌}
-use borrow.Author.Tests.{le_leb, lt-leb}
+use borrow.Author.Tests.{le-leb, lt-leb}
 use Rattle.formulas.specs.Built.{byte_rank, sign_rank}
 use borrow.Author.Rules.{rules}
 use Rattle.formulas.proofs.builder.sign_rank.Statement.{statement}
@@ -15,7 +15,7 @@ returns c =
     let a = c.before.before.args in
     let e = c.before.byte-rank.ensures in
     let h : byte_rank a.b ≤ a.rank = rw e at c.if1.true in
-    let k : byte_rank a.b ≡ sign_rank a.rank a.b = simp (le_leb (byte_rank a.b) a.rank h) in
+    let k : byte_rank a.b ≡ sign_rank a.rank a.b = simp (le-leb (byte_rank a.b) a.rank h) in
     e ∙ k
 
 returns_2 : tie.Need-returns-2

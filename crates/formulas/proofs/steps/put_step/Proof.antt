@@ -4,7 +4,7 @@ use Prim.Native.Nat.{◌*◌}
 use native.Mathlib.Omega.{arith}
 use mir.Syntax.{w64}
 use mir.Val.{SFits}
-use mir.ValLaws.{to_z_of_z}
+use mir.ValLaws.{to_z-of_z}
 use lib.ListN.{length-set}
 use Rattle.sheet.specs.Lines.{step_numbers}
 use Rattle.formulas.proofs.StepNumbers.{sets_four, sets_out}
@@ -70,7 +70,7 @@ returns_2 : tie.Need-returns-2
 returns_2 c =
     let a = (start c).args in
     let f = fields_fit (start c) in
-    (refl, rw (to_z_of_z w64 _ f.0, to_z_of_z w64 _ f.1, to_z_of_z w64 _ f.2, to_z_of_z w64 _ f.3) (sets_four a.numbers.now (4 * a.index) a.t.code a.t.first a.t.second a.t.value))
+    (refl, rw (to_z-of_z w64 _ f.0, to_z-of_z w64 _ f.1, to_z-of_z w64 _ f.2, to_z-of_z w64 _ f.3) (sets_four a.numbers.now (4 * a.index) a.t.code a.t.first a.t.second a.t.value))
 
 pub put_step_spec : {M : Type 1} → statement M
 put_step_spec =

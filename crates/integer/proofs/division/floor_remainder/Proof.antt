@@ -7,7 +7,7 @@ use lib.IntN.{pos, negsuc, nat_abs, ◌+ℤ◌}
 use lib.Signed.{quot_z, rem_z, mag_rem, ◌<ℤ◌, ◌≤ℤ◌}
 use mir.Syntax.{w64}
 use mir.Val.{SFits, to_z, of_z}
-use mir.ValLaws.{to_z_of_z, sfits_le}
+use mir.ValLaws.{to_z-of_z, sfits_le}
 use Rattle.integer.specs.Floor.{floor_remainder}
 use Rattle.integer.proofs.Absolute.{nat_abs_zero}
 use Rattle.integer.proofs.Floor.{nat_abs_remainder}
@@ -18,7 +18,7 @@ use Rattle.integer.proofs.division.floor_remainder.Tie as tie
 
 -- ---- the first test
 is_minus_one : (c : tie.Then1) → c.before.args.d ≡ negsuc 0
-is_minus_one c = sym (to_z_of_z w64 _ c.before.ranges.d) ∙ ap (to_z w64) c.if1.true
+is_minus_one c = sym (to_z-of_z w64 _ c.before.ranges.d) ∙ ap (to_z w64) c.if1.true
 
 not_minus_one : (c : tie.Else1) → c.before.args.d ≢ negsuc 0
 not_minus_one c e = c.if1.false (ap (of_z w64) e)
@@ -35,10 +35,10 @@ left_fits c = remainder_fits c.args.a c.args.d c.requires c.ranges.d
 
 -- ---- the tests of the signs
 above : (c : tie.Then2) → pos 0 <ℤ c.before.before.args.d
-above c = <ℤ_of_test (rw (to_z_of_z w64 _ c.before.before.ranges.d) at c.if2.true)
+above c = <ℤ_of_test (rw (to_z-of_z w64 _ c.before.before.ranges.d) at c.if2.true)
 
 below : (c : tie.Else2) → c.before.before.args.d ≤ℤ pos 0
-below c = ≥ℤ_of_test (rw (to_z_of_z w64 _ c.before.before.ranges.d) at c.if2.false)
+below c = ≥ℤ_of_test (rw (to_z-of_z w64 _ c.before.before.ranges.d) at c.if2.false)
 
 -- ---- the remainder moved by one divisor
 abbrev Moved : tie.Start → Type 0
@@ -48,14 +48,14 @@ moved_above : (c : tie.Then3) → Moved c.before.before.before
 moved_above c =
     let s = c.before.before.before in
     (moved_by_positive s.args.a s.args.d (above c.before)
-    (<ℤ_of_test (rw (to_z_of_z w64 _ s.ranges.a, to_z_of_z w64 _ s.ranges.d, to_z_of_z w64 _ (r_fits s)) at c.if3.true))
+    (<ℤ_of_test (rw (to_z-of_z w64 _ s.ranges.a, to_z-of_z w64 _ s.ranges.d, to_z-of_z w64 _ (r_fits s)) at c.if3.true))
     ).remainder
 
 moved_below : (c : tie.Then4) → Moved c.before.before.before
 moved_below c =
     let s = c.before.before.before in
     (moved_by_negative s.args.a s.args.d s.requires (below c.before)
-    (<ℤ_of_test (rw (to_z_of_z w64 _ s.ranges.a, to_z_of_z w64 _ s.ranges.d, to_z_of_z w64 _ (r_fits s)) at c.if4.true))
+    (<ℤ_of_test (rw (to_z-of_z w64 _ s.ranges.a, to_z-of_z w64 _ s.ranges.d, to_z-of_z w64 _ (r_fits s)) at c.if4.true))
     ).remainder
 
 -- ---- the needs
@@ -70,45 +70,45 @@ returns c =
 rem_r : tie.Need-nonzero-rem-r
 rem_r c =
     let s = c.before in
-    rw (to_z_of_z w64 _ s.ranges.a, to_z_of_z w64 _ s.ranges.d) (bits_above_zero s.args.d s.requires s.ranges.d, q_fits c)
+    rw (to_z-of_z w64 _ s.ranges.a, to_z-of_z w64 _ s.ranges.d) (bits_above_zero s.args.d s.requires s.ranges.d, q_fits c)
 
 add_result : tie.Need-overflow-add-result
 add_result c =
     let s = c.before.before.before in
-    rw (to_z_of_z w64 _ s.ranges.a, to_z_of_z w64 _ s.ranges.d, to_z_of_z w64 _ (r_fits s), moved_above c) (left_fits s)
+    rw (to_z-of_z w64 _ s.ranges.a, to_z-of_z w64 _ s.ranges.d, to_z-of_z w64 _ (r_fits s), moved_above c) (left_fits s)
 
 add_result_2 : tie.Need-overflow-add-result-2
 add_result_2 c =
     let s = c.before.before.before in
-    rw (to_z_of_z w64 _ s.ranges.a, to_z_of_z w64 _ s.ranges.d, to_z_of_z w64 _ (r_fits s), moved_below c) (left_fits s)
+    rw (to_z-of_z w64 _ s.ranges.a, to_z-of_z w64 _ s.ranges.d, to_z-of_z w64 _ (r_fits s), moved_below c) (left_fits s)
 
 returns_2 : tie.Need-returns-2
 returns_2 c =
     let s = c.before.before.before in
-    rw (to_z_of_z w64 _ s.ranges.a, to_z_of_z w64 _ s.ranges.d, to_z_of_z w64 _ (r_fits s)) (back_as (moved_above c) (left_fits s))
+    rw (to_z-of_z w64 _ s.ranges.a, to_z-of_z w64 _ s.ranges.d, to_z-of_z w64 _ (r_fits s)) (back_as (moved_above c) (left_fits s))
 
 returns_3 : tie.Need-returns-3
 returns_3 c =
     let s = c.before.before.before in
     let e =
     kept_by_positive s.args.a s.args.d (above c.before)
-    (≥ℤ_of_test (rw (to_z_of_z w64 _ s.ranges.a, to_z_of_z w64 _ s.ranges.d, to_z_of_z w64 _ (r_fits s)) at c.if3.false))
+    (≥ℤ_of_test (rw (to_z-of_z w64 _ s.ranges.a, to_z-of_z w64 _ s.ranges.d, to_z-of_z w64 _ (r_fits s)) at c.if3.false))
     in
-    rw (to_z_of_z w64 _ s.ranges.a, to_z_of_z w64 _ s.ranges.d) (back_as e.remainder (left_fits s))
+    rw (to_z-of_z w64 _ s.ranges.a, to_z-of_z w64 _ s.ranges.d) (back_as e.remainder (left_fits s))
 
 returns_4 : tie.Need-returns-4
 returns_4 c =
     let s = c.before.before.before in
-    rw (to_z_of_z w64 _ s.ranges.a, to_z_of_z w64 _ s.ranges.d, to_z_of_z w64 _ (r_fits s)) (back_as (moved_below c) (left_fits s))
+    rw (to_z-of_z w64 _ s.ranges.a, to_z-of_z w64 _ s.ranges.d, to_z-of_z w64 _ (r_fits s)) (back_as (moved_below c) (left_fits s))
 
 returns_5 : tie.Need-returns-5
 returns_5 c =
     let s = c.before.before.before in
     let e =
     kept_by_negative s.args.a s.args.d s.requires (below c.before)
-    (≥ℤ_of_test (rw (to_z_of_z w64 _ s.ranges.a, to_z_of_z w64 _ s.ranges.d, to_z_of_z w64 _ (r_fits s)) at c.if4.false))
+    (≥ℤ_of_test (rw (to_z-of_z w64 _ s.ranges.a, to_z-of_z w64 _ s.ranges.d, to_z-of_z w64 _ (r_fits s)) at c.if4.false))
     in
-    rw (to_z_of_z w64 _ s.ranges.a, to_z_of_z w64 _ s.ranges.d) (back_as e.remainder (left_fits s))
+    rw (to_z-of_z w64 _ s.ranges.a, to_z-of_z w64 _ s.ranges.d) (back_as e.remainder (left_fits s))
 
 pub floor_remainder_spec : {M : Type 1} → statement M
 floor_remainder_spec =

@@ -6,7 +6,7 @@ use lib.IntN.{ℤ, pos, nat_abs, ◌+ℤ◌}
 use lib.Signed.{shr_z, mag_shr}
 use mir.Syntax.{w64}
 use mir.Val.{SFits}
-use mir.ValLaws.{to_z_of_z, sfits_le}
+use mir.ValLaws.{to_z-of_z, sfits_le}
 use Rattle.integer.specs.Floor.{floor_quotient}
 use Rattle.integer.specs.Nearest.{nearest_quotient}
 use Rattle.integer.proofs.Absolute.{nat_abs_add, nat_abs_of_fits, fits_of_nat_abs}
@@ -35,14 +35,14 @@ shifts_are_nearest : (a : ℤ) → shr_z (shr_z a 2048 +ℤ more) 2 ≡ nearest_
 shifts_are_nearest a = shift_is_floor _ 2 ∙ ap (λ z. floor_quotient (z +ℤ more) (pos 2)) (shift_is_floor a 2048) ∙ nearest_by_halves a 2048 (omega arith)
 
 add_result : tie.Need-overflow-add-result
-add_result c = let f = c.ranges.a in rw (to_z_of_z w64 _ f, to_z_of_z w64 _ (halves_fit c.args.a f)) (more_fits c.args.a f)
+add_result c = let f = c.ranges.a in rw (to_z-of_z w64 _ f, to_z-of_z w64 _ (halves_fit c.args.a f)) (more_fits c.args.a f)
 
 returns : tie.Need-returns
 returns c =
     let a = c.args.a in
     let f = c.ranges.a in
     let fits = more_fits a f in
-    rw (to_z_of_z w64 _ f, to_z_of_z w64 _ (halves_fit a f), to_z_of_z w64 _ fits, to_z_of_z w64 _ (sfits_le (mag_shr (shr_z a 2048 +ℤ more) 2) fits)) (shifts_are_nearest a)
+    rw (to_z-of_z w64 _ f, to_z-of_z w64 _ (halves_fit a f), to_z-of_z w64 _ fits, to_z-of_z w64 _ (sfits_le (mag_shr (shr_z a 2048 +ℤ more) 2) fits)) (shifts_are_nearest a)
 
 pub nearest_quotient_4096_spec : {M : Type 1} → statement M
 nearest_quotient_4096_spec = tie.close (tie.spec add_result returns)

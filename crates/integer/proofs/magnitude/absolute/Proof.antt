@@ -7,7 +7,7 @@ use lib.IntN.{ℤ, pos, negsuc, nat_abs, ◌-ℤ◌}
 use lib.Signed.{mag, yes_non_neg, ◌<ℤ◌}
 use mir.Syntax.{w64}
 use mir.Val.{to_z, of_z}
-use mir.ValLaws.{to_z_of_z}
+use mir.ValLaws.{to_z-of_z}
 use borrow.Author.Rules.{rules}
 use Rattle.integer.proofs.Ring.{con, ◌⊖◌}
 use Rattle.integer.proofs.Linear.{lin_ℤ, ◌≗◌, so}
@@ -26,21 +26,21 @@ nat_abs_is (pos n) h = absurd (let k = ltb→lt n 0 h.lt in omega arith)
 nat_abs_is (negsuc n) h = omega arith
 
 below : (c : tie.Else1) → c.before.args.a <ℤ pos 0
-below c = >ℤ_of_test (rw (to_z_of_z w64 _ c.before.ranges.a) at c.if1.false)
+below c = >ℤ_of_test (rw (to_z-of_z w64 _ c.before.ranges.a) at c.if1.false)
 
 small : (c : tie.Else1) → mag c.before.args.a < 2 ^ 63
 small c = c.before.ranges.a.sfits
 
 difference : (c : tie.Else1) → negsuc 0 -ℤ to_z w64 (of_z w64 c.before.args.a) ≡ pos (mag c.before.args.a)
-difference c = rw (to_z_of_z w64 _ c.before.ranges.a) (mirrored c.before.args.a (below c))
+difference c = rw (to_z-of_z w64 _ c.before.ranges.a) (mirrored c.before.args.a (below c))
 
 -- ---- the needs
 cast_result : tie.Need-overflow-cast-result
 cast_result c =
     let s = c.before in
     let t = nat_abs_of_fits s.args.a s.ranges.a in
-    rw (to_z_of_z w64 _ s.ranges.a)
-    (yes_non_neg {z = s.args.a} (≤ℤ_of_test (rw (to_z_of_z w64 _ s.ranges.a) at c.if1.true)), record { fits = omega arith })
+    rw (to_z-of_z w64 _ s.ranges.a)
+    (yes_non_neg {z = s.args.a} (≤ℤ_of_test (rw (to_z-of_z w64 _ s.ranges.a) at c.if1.true)), record { fits = omega arith })
 
 sub_result : tie.Need-overflow-sub-result
 sub_result c = rw (difference c) (record { sfits = small c })

@@ -4,7 +4,7 @@ use Prim.Native.Nat.{◌-◌, ◌*◌}
 use native.Mathlib.Omega.{arith}
 use lib.ListN.{length}
 use mir.Syntax.{w64}
-use mir.ValLaws.{to_z_of_z}
+use mir.ValLaws.{to_z-of_z}
 use Rattle.affine.specs.Lists.{at}
 use Rattle.evaluation.specs.Table.{row_width}
 use Rattle.evaluation.proofs.PartLaws.{length_part}
@@ -32,7 +32,7 @@ returns : tie.Need-returns
 returns c =
     let p = c.before in
     let s = p.before in
-    to_z_of_z w64 _ (record { sfits = c.result.given }) ∙ ap (λ l. at l s.args.row) p.row-part.ensures ∙ sym (row_own s.requires)
+    to_z-of_z w64 _ (record { sfits = c.result.given }) ∙ ap (λ l. at l s.args.row) p.row-part.ensures ∙ sym (row_own s.requires)
 
 pub own_coefficient_spec : {M : Type 1} → statement M
 own_coefficient_spec =

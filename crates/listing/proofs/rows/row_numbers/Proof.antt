@@ -6,7 +6,7 @@ use native.Mathlib.Omega.{arith}
 use lib.IntN.{pos}
 use mir.Syntax.{w64}
 use mir.Val.{SFits}
-use mir.ValLaws.{to_z_of_z}
+use mir.ValLaws.{to_z-of_z}
 use Rattle.affine.specs.declared.Range.{Range}
 use Rattle.evaluation.specs.declared.RangeAnswer.{RangeAnswer}
 use Rattle.listing.proofs.HeldRows.{row_range}
@@ -48,11 +48,11 @@ returns c =
     let g = o.before in
     let s = g.before in
     let told = row_range s.requires.0 s.requires.1 in
-    λ i. to_z_of_z w64 (pos s.args.row) (cast_t9 f) i
-    ∷ (to_z_of_z w64 _ (low_fits c) ∙ ap (λ (a : Range). a.low) g.get-range.ensures ∙ sym (ap (λ (a : RangeAnswer). a.low) told)) i
-    ∷ (to_z_of_z w64 _ (high_fits c) ∙ ap (λ (a : Range). a.high) g.get-range.ensures ∙ sym (ap (λ (a : RangeAnswer). a.high) told)) i
-    ∷ (to_z_of_z w64 _ (record { sfits = o.own-coefficient.type-inv }) ∙ o.own-coefficient.ensures) i
-    ∷ (to_z_of_z w64 (pos f.first-same.result) (cast_t10 f) ∙ ap pos f.first-same.ensures) i
+    λ i. to_z-of_z w64 (pos s.args.row) (cast_t9 f) i
+    ∷ (to_z-of_z w64 _ (low_fits c) ∙ ap (λ (a : Range). a.low) g.get-range.ensures ∙ sym (ap (λ (a : RangeAnswer). a.low) told)) i
+    ∷ (to_z-of_z w64 _ (high_fits c) ∙ ap (λ (a : Range). a.high) g.get-range.ensures ∙ sym (ap (λ (a : RangeAnswer). a.high) told)) i
+    ∷ (to_z-of_z w64 _ (record { sfits = o.own-coefficient.type-inv }) ∙ o.own-coefficient.ensures) i
+    ∷ (to_z-of_z w64 (pos f.first-same.result) (cast_t10 f) ∙ ap pos f.first-same.ensures) i
     ∷ []
 
 pub row_numbers_spec : {M : Type 1} → statement M

@@ -5,7 +5,7 @@ use mathlib.Core.Path.{◌≡◌, refl, sym, ◌∙◌}
 use Prim.Native.Nat.{◌≤◌, ◌-◌, ◌+◌}
 use lib.ListN.{length, length-set}
 use mir.Syntax.{w64}
-use mir.ValLaws.{to_z_of_z}
+use mir.ValLaws.{to_z-of_z}
 use Rattle.sheet.specs.Number.{field_at}
 use Rattle.sheet.specs.Text.{end_byte}
 use Rattle.sheet.specs.Reading.{zeros, fields_from, fields_at}
@@ -53,7 +53,7 @@ loop_again c =
     let x = c.before.value.given in
     let e : field_at a.s.now l.p (end_byte (a.k - (l.i + 1))) ≡ Number x.0.0 x.0.1.0 = rw (← c.before.before.before.before.end-byte.ensures) (sym f.ensures ∙ x.1) in
     let st = field_sound a.s.now l.p (end_byte (a.k - (l.i + 1))) x.0.0 x.0.1.0 (end_byte_above_zero (a.k - (l.i + 1))) l.invariant.1 e in
-    rw (to_z_of_z w64 x.0.0 (ten_digits_fit x.0.0 st.small))
+    rw (to_z-of_z w64 x.0.0 (ten_digits_fit x.0.0 st.small))
     (omega arith, st.upto, length-set l.v l.i x.0.0 ∙ l.invariant.2, l.invariant.3 ∙ fields_more a.s.now a.k l.i l.p l.v (omega arith) x.0.0 x.0.1.0 e)
 
 enum_told : tie.Need-enum-told invariant_loop decreases_loop

@@ -2,7 +2,7 @@
 use borrow.Author.Rules.{rules}
 use native.Mathlib.Omega.{arith}
 use mathlib.Core.Path.{◌≡◌, sym, ◌∙◌}
-use lib.ListN.{length, get_or_eq_default, length-map}
+use lib.ListN.{length, get_or-eq_default, length-map}
 use Rattle.sheet.specs.Limits.{max_inputs}
 use Rattle.sheet.specs.Lines.{zero_end}
 use Rattle.sheet.proofs.lines.ends_at.Statement.{statement}
@@ -22,7 +22,7 @@ returns_2 : tie.Need-returns-2
 returns_2 c =
     let s = c.before in
     let n : length s.args.t1.ends ≡ max_inputs = sym (length-map s.args.t1.ends _) ∙ s.well-formed.0.1.1.1.1.1.0.1.0.1 in
-    sym (get_or_eq_default s.args.t1.ends zero_end (omega arith))
+    sym (get_or-eq_default s.args.t1.ends zero_end (omega arith))
 
 pub ends_at_spec : {M : Type 1} → statement M
 ends_at_spec = tie.close (tie.spec mul_result element_copy_out_result returns returns_2)

@@ -1,13 +1,13 @@
 -- `line_of` makes the tests of `line_of` in their order.
 use borrow.Author.Rules.{rules}
-use borrow.Author.Tests.{lt-ltb, le-ltb, le_leb, lt-leb, eq-eqb, ne_eqb}
+use borrow.Author.Tests.{lt-ltb, le-ltb, le-leb, lt-leb, eq-eqb, ne_eqb}
 use Rattle.sheet.specs.Lines.{line_of}
 use Rattle.sheet.proofs.lines.line_of.Statement.{statement}
 use Rattle.sheet.proofs.lines.line_of.Tie as tie
 
 returns : tie.Need-returns
 unfolding line_of
-returns c = simp (le_leb _ _ c.if1.true)
+returns c = simp (le-leb _ _ c.if1.true)
 
 returns_2 : tie.Need-returns-2
 unfolding line_of

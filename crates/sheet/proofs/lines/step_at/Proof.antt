@@ -2,7 +2,7 @@
 use borrow.Author.Rules.{rules}
 use native.Mathlib.Omega.{arith}
 use mathlib.Core.Path.{◌≡◌, sym, ◌∙◌}
-use lib.ListN.{length, get_or_eq_default, length-map}
+use lib.ListN.{length, get_or-eq_default, length-map}
 use Rattle.sheet.specs.Limits.{max_steps}
 use Rattle.sheet.specs.Lines.{zero_step}
 use Rattle.sheet.proofs.lines.step_at.Statement.{statement}
@@ -22,7 +22,7 @@ returns_2 : tie.Need-returns-2
 returns_2 c =
     let s = c.before in
     let n : length s.args.t1.step ≡ max_steps = sym (length-map s.args.t1.step _) ∙ s.well-formed.0.1.1.1.1.1.1.0.1.0.1 in
-    sym (get_or_eq_default s.args.t1.step zero_step (omega arith))
+    sym (get_or-eq_default s.args.t1.step zero_step (omega arith))
 
 pub step_at_spec : {M : Type 1} → statement M
 step_at_spec = tie.close (tie.spec mul_result element_copy_out_result returns returns_2)

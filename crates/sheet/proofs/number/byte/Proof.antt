@@ -1,7 +1,7 @@
 -- `byte` reads within the bytes, and is 0 behind them.
 use borrow.Author.Rules.{rules}
 use mathlib.Core.Path.{sym}
-use lib.ListN.{get_or_eq_default}
+use lib.ListN.{get_or-eq_default}
 use Rattle.sheet.proofs.number.byte.Statement.{statement}
 use Rattle.sheet.proofs.number.byte.Tie as tie
 
@@ -12,7 +12,7 @@ returns : tie.Need-returns
 returns c = search rules
 
 returns_2 : tie.Need-returns-2
-returns_2 c = sym (get_or_eq_default c.before.args.s.now 0 c.if1.false)
+returns_2 c = sym (get_or-eq_default c.before.args.s.now 0 c.if1.false)
 
 pub byte_spec : {M : Type 1} → statement M
 byte_spec = tie.close (tie.spec shared_slice_read_result returns returns_2)

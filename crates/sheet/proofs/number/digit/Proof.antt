@@ -1,6 +1,6 @@
 -- `digit` makes the two tests of `digit_of`.
 use borrow.Author.Rules.{rules}
-use borrow.Author.Tests.{lt-ltb, le-ltb, le_leb, lt-leb}
+use borrow.Author.Tests.{lt-ltb, le-ltb, le-leb, lt-leb}
 use Rattle.sheet.proofs.number.digit.Statement.{statement}
 use Rattle.sheet.proofs.number.digit.Tie as tie
 
@@ -11,7 +11,7 @@ returns : tie.Need-returns
 returns c = simp (lt-ltb _ _ c.if1.true)
 
 returns_2 : tie.Need-returns-2
-returns_2 c = simp (le-ltb _ _ c.before.if1.false, le_leb _ _ c.if2.true)
+returns_2 c = simp (le-ltb _ _ c.before.if1.false, le-leb _ _ c.if2.true)
 
 returns_3 : tie.Need-returns-3
 returns_3 c = simp (le-ltb _ _ c.before.if1.false, lt-leb _ _ c.if2.false)

@@ -1,8 +1,8 @@
 -- `judge` makes the tests of `judged` in their order.
 use borrow.Author.Rules.{rules, sfits_of}
 use mir.Syntax.{w64}
-use mir.ValLaws.{to_z_of_z}
-use borrow.Author.Tests.{le_leb, lt-leb, eq-eqb, ne_eqb}
+use mir.ValLaws.{to_z-of_z}
+use borrow.Author.Tests.{le-leb, lt-leb, eq-eqb, ne_eqb}
 use mathlib.Core.Logic.{⊎_elim}
 use mathlib.Core.Path.{◌∙◌}
 use Rattle.sheet.specs.Number.{judged}
@@ -11,7 +11,7 @@ use Rattle.sheet.proofs.number.judge.Tie as tie
 
 returns : tie.Need-returns
 unfolding judged
-returns c = simp (le_leb _ _ c.if1.true)
+returns c = simp (le-leb _ _ c.if1.true)
 
 returns_2 : tie.Need-returns-2
 unfolding judged
@@ -38,7 +38,7 @@ returns_5 : tie.Need-returns-5
 unfolding judged
 returns_5 c =
     let b = c.before.before.before in
-    let v = to_z_of_z w64 c.signed.result (sfits_of c.signed.type-inv) ∙ c.signed.ensures in
+    let v = to_z-of_z w64 c.signed.result (sfits_of c.signed.type-inv) ∙ c.signed.ensures in
     ⊎_elim
     (λ w. rw v (simp (lt-leb _ _ b.if1.false, eq-eqb _ _ c.before.before.if2.false, eq-eqb _ _ w.0.taken, eq-eqb _ _ w.1.left, w.2.left)))
     (λ w. rw v (simp (lt-leb _ _ b.if1.false, eq-eqb _ _ c.before.before.if2.false, ne_eqb _ _ w.left)))

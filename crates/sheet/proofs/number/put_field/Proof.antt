@@ -4,7 +4,7 @@ use native.Mathlib.Omega.{arith}
 use mathlib.Core.List.{[], ◌∷◌}
 use lib.ListN.{length-append}
 use mir.Syntax.{w64}
-use mir.ValLaws.{to_z_of_z}
+use mir.ValLaws.{to_z-of_z}
 use Rattle.sheet.specs.Wrote.{Wrote}
 use Rattle.sheet.specs.Text.{numeral}
 use Rattle.sheet.proofs.Written.{wrote_then}
@@ -13,12 +13,12 @@ use Rattle.sheet.proofs.number.put_field.Tie as tie
 
 -- what `put_number` ensures, of v itself and not of what the machine reads back from its bits
 number : (c : tie.After-put-number) → Wrote c.before.before.before.args.out.now c.put-number.new.0 c.before.before.before.args.at c.put-number.result (numeral c.before.before.before.args.v)
-number c = let s = c.before.before.before in rw (to_z_of_z w64 s.args.v s.ranges.v) at c.put-number.ensures
+number c = let s = c.before.before.before in rw (to_z-of_z w64 s.args.v s.ranges.v) at c.put-number.ensures
 
 put_number_requires : tie.Need-put-number-requires
 put_number_requires c κs =
     let s = c.before.before in
-    rw (to_z_of_z w64 s.args.v s.ranges.v) (omega (arith, length-append (numeral s.args.v) (s.args.t ∷ [])))
+    rw (to_z-of_z w64 s.args.v s.ranges.v) (omega (arith, length-append (numeral s.args.v) (s.args.t ∷ [])))
 
 put_byte_requires : tie.Need-put-byte-requires
 put_byte_requires c κs =

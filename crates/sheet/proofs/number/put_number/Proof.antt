@@ -6,7 +6,7 @@ use Prim.Native.Nat.{ℕ}
 use lib.IntN.{nat_abs}
 use lib.ListN.{length}
 use mir.Syntax.{w64}
-use mir.ValLaws.{to_z_of_z}
+use mir.ValLaws.{to_z-of_z}
 use Rattle.sheet.specs.Text.{decimal}
 use Rattle.sheet.proofs.Written.{wrote_then}
 use Rattle.sheet.proofs.Decimal.{numeral_below, numeral_above}
@@ -15,7 +15,7 @@ use Rattle.sheet.proofs.number.put_number.Tie as tie
 
 -- what `size` answered is the absolute value of v itself
 size_is : (c : tie.After-size) → c.size.result ≡ nat_abs c.before.before.args.v
-size_is c = let s = c.before.before in c.size.ensures ∙ ap nat_abs (to_z_of_z w64 s.args.v s.ranges.v)
+size_is c = let s = c.before.before in c.size.ensures ∙ ap nat_abs (to_z-of_z w64 s.args.v s.ranges.v)
 
 size_requires : tie.Need-size-requires
 size_requires c κs = search rules

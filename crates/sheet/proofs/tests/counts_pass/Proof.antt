@@ -3,7 +3,7 @@ use borrow.Author.Rules.{rules}
 use mathlib.Core.Path.{◌≡◌, sym, ◌∙◌}
 use lib.IntN.{pos}
 use mir.Syntax.{w64}
-use mir.ValLaws.{to_z_of_z}
+use mir.ValLaws.{to_z-of_z}
 use Rattle.sheet.specs.Tests.{between, counts_pass}
 use Rattle.sheet.specs.Limits.{max_inputs}
 use Rattle.sheet.proofs.tests.counts_pass.Statement.{statement}
@@ -11,12 +11,12 @@ use Rattle.sheet.proofs.tests.counts_pass.Tie as tie
 
 -- what `between` answered, of the counts themselves and not of what the machine reads back from their bits
 inputs_are : (c : tie.After-between) → between (pos 1) c.before.args.inputs (pos max_inputs) ≡ c.between.result
-inputs_are c = let s = c.before in sym (rw (to_z_of_z w64 s.args.inputs s.ranges.inputs) at c.between.ensures)
+inputs_are c = let s = c.before in sym (rw (to_z-of_z w64 s.args.inputs s.ranges.inputs) at c.between.ensures)
 
 squares_are : (c : tie.After-between2) → between (pos 0) c.before.before.before.args.squares c.before.before.before.args.inputs ≡ c.between2.result
 squares_are c =
     let s = c.before.before.before in
-    sym (rw (to_z_of_z w64 s.args.squares s.ranges.squares, to_z_of_z w64 s.args.inputs s.ranges.inputs) at c.between2.ensures)
+    sym (rw (to_z-of_z w64 s.args.squares s.ranges.squares, to_z-of_z w64 s.args.inputs s.ranges.inputs) at c.between2.ensures)
 
 cast_between : tie.Need-overflow-cast-between
 cast_between c = search rules
@@ -37,7 +37,7 @@ returns : tie.Need-returns
 unfolding counts_pass
 returns c =
     let s = c.before.before.before.before.before in
-    let e = rw (to_z_of_z w64 s.args.steps s.ranges.steps) at c.between3.ensures in
+    let e = rw (to_z-of_z w64 s.args.steps s.ranges.steps) at c.between3.ensures in
     e ∙ simp (inputs_are c.before.before.before.before ∙ c.before.before.before.if1.true, squares_are c.before.before ∙ c.before.if2.true)
 
 returns_2 : tie.Need-returns-2

@@ -3,7 +3,7 @@ use borrow.Author.Rules.{rules}
 use mathlib.Core.Path.{ap, ◌∙◌}
 use Prim.Native.Nat.{ℕ}
 use mir.Syntax.{w64}
-use mir.ValLaws.{to_z_of_z}
+use mir.ValLaws.{to_z-of_z}
 use Rattle.sheet.specs.Lines.{natural}
 use lib.Dec.{leb}
 use Rattle.sheet.proofs.tests.names_row.Statement.{statement}
@@ -15,13 +15,13 @@ natural_requires c κs = search rules
 returns : tie.Need-returns
 returns c =
     let s = c.before.before in
-    let z = to_z_of_z w64 s.args.z s.ranges.z in
+    let z = to_z-of_z w64 s.args.z s.ranges.z in
     ap (λ (n : ℕ). leb n s.args.earlier) (rw z at c.natural.ensures) ∙ simp (rw z at c.before.if1.true)
 
 returns_2 : tie.Need-returns-2
 returns_2 c =
     let s = c.before in
-    let z = to_z_of_z w64 s.args.z s.ranges.z in
+    let z = to_z-of_z w64 s.args.z s.ranges.z in
     simp (rw z at c.if1.false)
 
 pub names_row_spec : {M : Type 1} → statement M

@@ -1,7 +1,7 @@
 -- `row_passes` asks the test that the field takes.
 use borrow.Author.Rules.{rules}
 use mir.Syntax.{w64}
-use mir.ValLaws.{to_z_of_z}
+use mir.ValLaws.{to_z-of_z}
 use Rattle.sheet.specs.Tests.{between}
 use Rattle.sheet.proofs.tests.row_passes.Statement.{statement}
 use Rattle.sheet.proofs.tests.row_passes.Tie as tie
@@ -15,12 +15,12 @@ between_requires c κs = search rules
 returns : tie.Need-returns
 returns c =
     let s = c.before.before in
-    rw c.before.if1.true (rw (to_z_of_z w64 s.args.z s.ranges.z) at c.names-row.ensures)
+    rw c.before.if1.true (rw (to_z-of_z w64 s.args.z s.ranges.z) at c.names-row.ensures)
 
 returns_2 : tie.Need-returns-2
 returns_2 c =
     let s = c.before.before in
-    rw c.before.if1.false (rw (to_z_of_z w64 s.args.z s.ranges.z) at c.between.ensures)
+    rw c.before.if1.false (rw (to_z-of_z w64 s.args.z s.ranges.z) at c.between.ensures)
 
 pub row_passes_spec : {M : Type 1} → statement M
 row_passes_spec = tie.close (tie.spec names_row_requires between_requires returns returns_2)

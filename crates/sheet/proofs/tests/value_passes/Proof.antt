@@ -1,7 +1,7 @@
 -- `value_passes` asks the test that the field takes.
 use borrow.Author.Rules.{rules}
 use mir.Syntax.{w64}
-use mir.ValLaws.{to_z_of_z}
+use mir.ValLaws.{to_z-of_z}
 use Rattle.sheet.specs.Tests.{between}
 use Rattle.sheet.proofs.tests.value_passes.Statement.{statement}
 use Rattle.sheet.proofs.tests.value_passes.Tie as tie
@@ -15,12 +15,12 @@ between_requires c κs = search rules
 returns : tie.Need-returns
 returns c =
     let s = c.before.before in
-    rw c.before.if1.true (rw (to_z_of_z w64 s.args.z s.ranges.z) at c.within-limit.ensures)
+    rw c.before.if1.true (rw (to_z-of_z w64 s.args.z s.ranges.z) at c.within-limit.ensures)
 
 returns_2 : tie.Need-returns-2
 returns_2 c =
     let s = c.before.before in
-    rw c.before.if1.false (rw (to_z_of_z w64 s.args.z s.ranges.z) at c.between.ensures)
+    rw c.before.if1.false (rw (to_z-of_z w64 s.args.z s.ranges.z) at c.between.ensures)
 
 pub value_passes_spec : {M : Type 1} → statement M
 value_passes_spec = tie.close (tie.spec within_limit_requires between_requires returns returns_2)
