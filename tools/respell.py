@@ -80,6 +80,8 @@ def read(path):
 
 
 def respelled(name):
+    if name.startswith("◌"):
+        return name
     if name in APART:
         return APART[name]
     if re.match(r"[A-Z]", name):

@@ -1,6 +1,8 @@
 // Row arithmetic: affine forms with square terms, in whole numbers of 1/4096.
 // The seven ways a row comes about are `input`, `constant`, `add`, `subtract`, `multiply`, `invert` (the reciprocal) and `take_root`;
 // `within_span` and `same_numbers` tell of rows.
+#![tactic(auto)]
+
 mod form_range;
 pub mod limits;
 pub mod product;

@@ -1,5 +1,7 @@
 // Evaluates one sheet many times, for measuring how long that takes. Standard input has a line with a count N, and then a sheet; the program
 // prints N and the range of the last row after N evaluations into the same tables, or the refusal. `checker/bench_evaluate.py` makes the same line.
+#![tactic(auto)]
+
 use libc::{STDIN_FILENO, STDOUT_FILENO};
 use sheet::{Refusal, Schedule};
 

@@ -9,7 +9,7 @@ use native.Mathlib.Omega.{arith}
 use borrow.Author.Tests.{ne_eqb}
 use lib.IntN.{pos}
 use lib.ListN.{length, get_or}
-use Rattle.integer.specs.Fraction.{Fraction, ◌≈◌, ◌_ℚ◌, ◌*ℚ◌, ◌/ℚ◌, whole}
+use Rattle.integer.specs.Fraction.{Fraction, ◌≈◌, ◌-ℚ◌, ◌*ℚ◌, ◌/ℚ◌, whole}
 use Rattle.integer.proofs.Ring.{◌⊕◌, ◌⊖◌, ◌⊗◌, ◌≐◌, ring}
 use Rattle.integer.proofs.Fraction.{ring_of_fractions, ordered_fractions, ≈_refl, ≈_sym, ≈_trans, +ℚ_cong, *ℚ_cong, times_quotient, ≤ℚ_of_not_below}
 use Rattle.integer.proofs.Order.{≤ℤ_trans}

@@ -7,7 +7,7 @@ use Prim.Native.Nat.{ℕ, ◌*◌, ◌<◌}
 use native.Mathlib.Omega.{arith}
 use lib.IntN.{pos, negsuc}
 use lib.Signed.{◌≤ℤ◌}
-use Rattle.integer.specs.Fraction.{Fraction, ◌≈◌, ◌≤ℚ◌, ◌_ℚ◌, ◌*ℚ◌, neg_ℚ, whole, reciprocal}
+use Rattle.integer.specs.Fraction.{Fraction, ◌≈◌, ◌≤ℚ◌, ◌-ℚ◌, ◌*ℚ◌, neg_ℚ, whole, reciprocal}
 use Rattle.integer.specs.Root.{floor_root}
 use Rattle.integer.proofs.Certificate.{certify, hyp, eqn, ◌⊞◌, ◌≼◌, ◌≋◌, ◌⊢◌}
 use Rattle.integer.proofs.Ring.{con, ◌⊕◌, ◌⊖◌, ◌⊗◌, neg, ◌≐◌, ring}

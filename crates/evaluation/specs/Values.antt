@@ -1,6 +1,6 @@
 -- "What each row becomes" and "The words of demand 3" (manual, sections 4.1 and 4.6): exact values, found values, and lying within ends, all in fractions.
 use Rattle.std.specs.Prelude.{List, [], ◌∷◌, ◌++◌, ℕ, zero, suc, ◌-◌, eqb, ltb, ℤ, pos, negsuc, length, get_or}
-use Rattle.integer.specs.Fraction.{Fraction, ◌<ℚ◌, ◌+ℚ◌, ◌_ℚ◌, ◌*ℚ◌, ◌/ℚ◌, reciprocal, over, whole}
+use Rattle.integer.specs.Fraction.{Fraction, ◌<ℚ◌, ◌+ℚ◌, ◌-ℚ◌, ◌*ℚ◌, ◌/ℚ◌, reciprocal, over, whole}
 use Rattle.integer.specs.Root.{floor_root}
 use Rattle.affine.specs.declared.Row.{Row}
 use Rattle.affine.specs.Limits.{unit}

@@ -1,4 +1,6 @@
 // Evaluation of a schedule into two lent tables, its rows and their ranges, and what is asked about them (manual, sections 6 and 7).
+#![tactic(auto)]
+
 mod answered; // answered.rt: the answered ranges, each the overlap of a row's own range and its plain one
 mod asking; // asking.rt: refusals 9, 8 and 6 of a row asked for
 mod steps; // steps.rt: the row of a line of the sheet, from the rows before it

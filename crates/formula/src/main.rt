@@ -1,5 +1,7 @@
 // Makes a sheet of a formula that stands among its arguments, with its inputs behind it, and prints the sheet or the refusal (manual, section 3.6):
 // all bytes are ready before the first is written. A wrong call prints how to call it, on standard error.
+#![tactic(auto)]
+
 ghost use Rattle.std.specs.Prelude.{◌≤◌, length};
 ghost use Rattle.formula.specs.Printed.{Printed};
 

@@ -4,7 +4,7 @@ use mathlib.Core.List.{List, [], ◌∷◌}
 use Prim.Native.Nat.{ℕ, suc, ◌+◌, ◌-◌, ◌≤◌}
 use native.Mathlib.Omega.{arith}
 use lib.IntN.{pos}
-use Rattle.integer.specs.Fraction.{Fraction, ◌+ℚ◌, ◌_ℚ◌, ◌*ℚ◌, reciprocal}
+use Rattle.integer.specs.Fraction.{Fraction, ◌+ℚ◌, ◌-ℚ◌, ◌*ℚ◌, reciprocal}
 use Rattle.sheet.specs.Limits.{max_steps}
 use Rattle.sheet.specs.Lines.{natural, step_at}
 use Rattle.sheet.specs.declared.Step.{Step}
@@ -40,7 +40,7 @@ module _ (c : Schedule) (x : ℕ → Fraction) where
       → exact (m + sign_count g - 1) ≡ sign_value g (exact (a - 1)) (exact (b - 1))
   unfolding exact_step
   sign_value_lem Plus m a b p q f = let e : m + 1 - 1 ≡ m = omega arith in rw e (of_rows ◌+ℚ◌ m a b p q (each_first Makes m (step_of 2 a b 0) [] f))
-  sign_value_lem Minus m a b p q f = let e : m + 1 - 1 ≡ m = omega arith in rw e (of_rows ◌_ℚ◌ m a b p q (each_first Makes m (step_of 3 a b 0) [] f))
+  sign_value_lem Minus m a b p q f = let e : m + 1 - 1 ≡ m = omega arith in rw e (of_rows ◌-ℚ◌ m a b p q (each_first Makes m (step_of 3 a b 0) [] f))
   sign_value_lem Times m a b p q f = let e : m + 1 - 1 ≡ m = omega arith in rw e (of_rows ◌*ℚ◌ m a b p q (each_first Makes m (step_of 4 a b 0) [] f))
   sign_value_lem Over m a b p q f =
       let over : Step = step_of 5 b 0 0 in

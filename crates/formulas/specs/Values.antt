@@ -1,6 +1,6 @@
 -- The exact value of a formula, in fractions.
 use Rattle.std.specs.Prelude.{ℕ, pos}
-use Rattle.integer.specs.Fraction.{Fraction, ◌+ℚ◌, ◌_ℚ◌, ◌*ℚ◌, reciprocal}
+use Rattle.integer.specs.Fraction.{Fraction, ◌+ℚ◌, ◌-ℚ◌, ◌*ℚ◌, reciprocal}
 use Rattle.evaluation.specs.Values.{in_units}
 use Rattle.formulas.specs.Grammar.{Tree, letter, literal, binary}
 use Rattle.formulas.specs.declared.Sign.{Sign}

@@ -1,4 +1,6 @@
 // Formulas as they are typed, as `(a+8192)*b/c` (manual, section 7.12): a text becomes a schedule.
+#![tactic(auto)]
+
 ghost use Rattle.std.specs.Prelude.{◌≡◌};
 ghost use Rattle.formulas.specs.Answer.{answer_of};
 

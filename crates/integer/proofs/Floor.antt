@@ -179,6 +179,7 @@ ceiling_least n d q h k =
     omega arith
 
 pub ceiling_at_most : (n d : ℕ) → 0 < d → ceiling_quotient n d ≤ n
+ceiling_at_most n zero h = elim h [ ]
 ceiling_at_most n (suc d) h = ceiling_least n (suc d) n h (omega arith)
 
 -- by quotient and remainder of naturals

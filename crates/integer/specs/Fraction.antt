@@ -12,7 +12,7 @@ pub record Fraction : Type 0 where
   pub above : pos 0 <ℤ lower
 
 infix 4 ◌≈◌ ◌≤ℚ◌ ◌<ℚ◌
-infixl 6 ◌+ℚ◌ ◌_ℚ◌
+infixl 6 ◌+ℚ◌ ◌-ℚ◌
 infixl 7 ◌*ℚ◌ ◌/ℚ◌
 -- equal
 pub record ◌≈◌ (x y : Fraction) : Type 0 where
@@ -72,7 +72,7 @@ unfoldable pub reciprocal : Fraction → Fraction
 reciprocal x = exchange x.upper x.lower
 
 -- difference and quotient
-abbrev pub ◌_ℚ◌ : Fraction → Fraction → Fraction
+abbrev pub ◌-ℚ◌ : Fraction → Fraction → Fraction
 x -ℚ y = x +ℚ neg_ℚ y
 
 abbrev pub ◌/ℚ◌ : Fraction → Fraction → Fraction

@@ -1,4 +1,6 @@
 // Runs the divisions, the absolute value and the root of `integer` on their edges, one line each. `checker/integer_edges.py` makes the same lines.
+#![tactic(auto)]
+
 ghost use Rattle.std.specs.Prelude.{◌≤◌, nat_abs};
 
 use integer::division::{

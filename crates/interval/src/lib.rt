@@ -1,4 +1,6 @@
 // Plain interval arithmetic on the ranges of rows (manual, section 5.15): each result holds every value that values in the operands give.
+#![tactic(auto)]
+
 ghost use Rattle.std.specs.Prelude.{◌≡◌, ◌≢◌, pos, ◌≤ℤ◌};
 ghost use Rattle.affine.specs.Limits.{span_limit};
 ghost use Rattle.interval.specs.Interval.{RangeWithin};

@@ -3,6 +3,8 @@
 // The file `calls` has fields of 17 bytes: 16 hexadecimal digits, and a byte that means nothing. A call is a code and its arguments, each one
 // field; a sheet that is to be listed, and a formula that is to be read, stands behind its call, byte for byte. `checker/library_calls.py` says what
 // each code is and what it prints; it makes the file and the same lines.
+#![tactic(auto)]
+
 ghost use Rattle.std.specs.Prelude.{◌≡◌, ◌≤◌, ◌<◌, length};
 
 use formulas::InputBlock;

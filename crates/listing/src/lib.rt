@@ -1,4 +1,6 @@
 // The text of a sheet, listing or refusal, written whole into lent bytes (manual, section 3).
+#![tactic(auto)]
+
 ghost use Rattle.std.specs.Prelude.{◌≡◌, ◌≤◌, length};
 ghost use Rattle.sheet.specs.Wrote.{Wrote};
 ghost use Rattle.listing.specs.Listing.{schedule_text, table_left, ranges_left};

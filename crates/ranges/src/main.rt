@@ -1,5 +1,7 @@
 // Reads a schedule sheet from standard input and prints its listing, or its refusal (manual, section 3): all bytes are ready before the first is
 // written.
+#![tactic(auto)]
+
 ghost use Rattle.std.specs.Prelude.{◌≤◌, length};
 ghost use Rattle.ranges.specs.Printed.{Printed};
 

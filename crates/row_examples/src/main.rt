@@ -1,5 +1,7 @@
 // P1 to P13, R1 to R6 and N1 to N5 (manual, section 5.13) over `affine`, a line for each: the numbers of the row and its own range, or the refusal. `checker/row_cases.py` says
 // which row owns which symbol, and makes the same lines.
+#![tactic(auto)]
+
 ghost use Rattle.std.specs.Prelude.{ℕ, ◌≤◌, ◌<◌, nat_abs, ◌≤ℤ◌};
 ghost use Rattle.affine.specs.Limits.{symbols, paired, span_limit};
 ghost use Rattle.row_examples.specs.Operand.{Operand};

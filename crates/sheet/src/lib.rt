@@ -1,4 +1,6 @@
 // Schedule sheets (manual, section 2): reading, writing, and the tests 3, 4 and 5 of a schedule that is handed over.
+#![tactic(auto)]
+
 ghost use Rattle.std.specs.Prelude.{◌≡◌};
 ghost use Rattle.sheet.specs.Reading.{read_of};
 ghost use Rattle.sheet.specs.Writing.{test_of, Written};

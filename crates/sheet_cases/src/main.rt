@@ -2,6 +2,8 @@
 //
 // The file `sheets` has the cases one after another, each as a decimal byte length, byte 10, then that many bytes. The program prints for
 // each either the line `refused NUMBER PLACE`, or the line `accepted LENGTH` and the bytes of the written sheet. The checker makes both files.
+#![tactic(auto)]
+
 ghost use Rattle.std.specs.Prelude.{◌≤◌};
 
 use libc::STDOUT_FILENO;

@@ -3,6 +3,8 @@
 // Proved: every function is safe and ends, an answer `Read(n)` counts bytes at the start of the buffer, and where there are no bytes to write the
 // answer is yes. What a call of the system read or wrote is outside every contract: that each byte comes once and in order, and that what came out is
 // a beginning of the bytes, is tested (tests/failing_calls.sh). After a failure no other call of the system is made, so errno still says why.
+#![tactic(auto)]
+
 ghost use Rattle.std.specs.Prelude.{◌≡◌, true, length};
 ghost use Rattle.streams.specs.Count.{CountsIn};
 

@@ -18,73 +18,73 @@ q_fits c = quotient_fits c.args.a c.args.d c.ranges.a (λ e. c.requires.1)
 r_fits : (c : tie.Start) → SFits w64 (rem_z c.args.a c.args.d)
 r_fits c = sfits_le (mag_rem c.args.a c.args.d) c.ranges.a
 
-div_q : tie.Need-nonzero-div-q
+div_q : tie.Need-nonzero_div-q
 div_q c = rw (to_z-of_z w64 _ c.ranges.a, to_z-of_z w64 _ c.ranges.d) (bits_above_zero c.args.d c.requires.0 c.ranges.d, q_fits c)
 
-rem_r : tie.Need-nonzero-rem-r
+rem_r : tie.Need-nonzero_rem-r
 rem_r c = div_q c
 
 -- ---- the tests
-above : (c : tie.Then1) → pos 0 <ℤ c.before.args.d
-above c = <ℤ_of_test (rw (to_z-of_z w64 _ c.before.ranges.d) at c.if1.true)
+above : (c : tie.Then-d-gt0) → pos 0 <ℤ c.before.args.d
+above c = <ℤ_of_test (rw (to_z-of_z w64 _ c.before.ranges.d) at c.if-d-gt0.true)
 
-below : (c : tie.Else1) → c.before.args.d ≤ℤ pos 0
-below c = ≥ℤ_of_test (rw (to_z-of_z w64 _ c.before.ranges.d) at c.if1.false)
+below : (c : tie.Else-d-gt0) → c.before.args.d ≤ℤ pos 0
+below c = ≥ℤ_of_test (rw (to_z-of_z w64 _ c.before.ranges.d) at c.if-d-gt0.false)
 
 -- ---- the quotient moved down by one
 abbrev Moved : tie.Start → Type 0
 Moved s = quot_z s.args.a s.args.d -ℤ pos 1 ≡ floor_quotient s.args.a s.args.d
 
-moved_above : (c : tie.Then2) → Moved c.before.before
+moved_above : (c : tie.Then-r-lt0) → Moved c.before.before
 moved_above c =
     let s = c.before.before in
     (moved_by_positive s.args.a s.args.d (above c.before)
-    (<ℤ_of_test (rw (to_z-of_z w64 _ s.ranges.a, to_z-of_z w64 _ s.ranges.d, to_z-of_z w64 _ (r_fits s)) at c.if2.true))
+    (<ℤ_of_test (rw (to_z-of_z w64 _ s.ranges.a, to_z-of_z w64 _ s.ranges.d, to_z-of_z w64 _ (r_fits s)) at c.if-r-lt0.true))
     ).quotient
 
-moved_below : (c : tie.Then3) → Moved c.before.before
+moved_below : (c : tie.Then-r-gt0) → Moved c.before.before
 moved_below c =
     let s = c.before.before in
     (moved_by_negative s.args.a s.args.d s.requires.0 (below c.before)
-    (<ℤ_of_test (rw (to_z-of_z w64 _ s.ranges.a, to_z-of_z w64 _ s.ranges.d, to_z-of_z w64 _ (r_fits s)) at c.if3.true))
+    (<ℤ_of_test (rw (to_z-of_z w64 _ s.ranges.a, to_z-of_z w64 _ s.ranges.d, to_z-of_z w64 _ (r_fits s)) at c.if-r-gt0.true))
     ).quotient
 
 -- ---- the needs
-sub_result : tie.Need-overflow-sub-result
+sub_result : tie.Need-overflow_sub-result
 sub_result c =
     let s = c.before.before in
     rw (to_z-of_z w64 _ s.ranges.a, to_z-of_z w64 _ s.ranges.d, to_z-of_z w64 _ (q_fits s), moved_above c) s.requires.1
 
-sub_result_2 : tie.Need-overflow-sub-result-2
+sub_result_2 : tie.Need-overflow_sub-result-then-r-gt0
 sub_result_2 c =
     let s = c.before.before in
     rw (to_z-of_z w64 _ s.ranges.a, to_z-of_z w64 _ s.ranges.d, to_z-of_z w64 _ (q_fits s), moved_below c) s.requires.1
 
-returns : tie.Need-returns
+returns : tie.Need-returns-then-r-lt0
 returns c =
     let s = c.before.before in
     rw (to_z-of_z w64 _ s.ranges.a, to_z-of_z w64 _ s.ranges.d, to_z-of_z w64 _ (q_fits s)) (back_as (moved_above c) s.requires.1)
 
-returns_2 : tie.Need-returns-2
+returns_2 : tie.Need-returns-else-r-lt0
 returns_2 c =
     let s = c.before.before in
     let e =
     kept_by_positive s.args.a s.args.d (above c.before)
-    (≥ℤ_of_test (rw (to_z-of_z w64 _ s.ranges.a, to_z-of_z w64 _ s.ranges.d, to_z-of_z w64 _ (r_fits s)) at c.if2.false))
+    (≥ℤ_of_test (rw (to_z-of_z w64 _ s.ranges.a, to_z-of_z w64 _ s.ranges.d, to_z-of_z w64 _ (r_fits s)) at c.if-r-lt0.false))
     in
     rw (to_z-of_z w64 _ s.ranges.a, to_z-of_z w64 _ s.ranges.d) (back_as e.quotient s.requires.1)
 
-returns_3 : tie.Need-returns-3
+returns_3 : tie.Need-returns-then-r-gt0
 returns_3 c =
     let s = c.before.before in
     rw (to_z-of_z w64 _ s.ranges.a, to_z-of_z w64 _ s.ranges.d, to_z-of_z w64 _ (q_fits s)) (back_as (moved_below c) s.requires.1)
 
-returns_4 : tie.Need-returns-4
+returns_4 : tie.Need-returns-else-r-gt0
 returns_4 c =
     let s = c.before.before in
     let e =
     kept_by_negative s.args.a s.args.d s.requires.0 (below c.before)
-    (≥ℤ_of_test (rw (to_z-of_z w64 _ s.ranges.a, to_z-of_z w64 _ s.ranges.d, to_z-of_z w64 _ (r_fits s)) at c.if3.false))
+    (≥ℤ_of_test (rw (to_z-of_z w64 _ s.ranges.a, to_z-of_z w64 _ s.ranges.d, to_z-of_z w64 _ (r_fits s)) at c.if-r-gt0.false))
     in
     rw (to_z-of_z w64 _ s.ranges.a, to_z-of_z w64 _ s.ranges.d) (back_as e.quotient s.requires.1)
 

@@ -17,14 +17,14 @@ use Rattle.integer.proofs.division.floor_remainder.Statement.{statement}
 use Rattle.integer.proofs.division.floor_remainder.Tie as tie
 
 -- ---- the first test
-is_minus_one : (c : tie.Then1) → c.before.args.d ≡ negsuc 0
-is_minus_one c = sym (to_z-of_z w64 _ c.before.ranges.d) ∙ ap (to_z w64) c.if1.true
+is_minus_one : (c : tie.Then-d-eqminus1) → c.before.args.d ≡ negsuc 0
+is_minus_one c = sym (to_z-of_z w64 _ c.before.ranges.d) ∙ ap (to_z w64) c.if-d-eqminus1.true
 
-not_minus_one : (c : tie.Else1) → c.before.args.d ≢ negsuc 0
-not_minus_one c e = c.if1.false (ap (of_z w64) e)
+not_minus_one : (c : tie.Else-d-eqminus1) → c.before.args.d ≢ negsuc 0
+not_minus_one c e = c.if-d-eqminus1.false (ap (of_z w64) e)
 
 -- ---- the machine's remainder
-q_fits : (c : tie.Else1) → SFits w64 (quot_z c.before.args.a c.before.args.d)
+q_fits : (c : tie.Else-d-eqminus1) → SFits w64 (quot_z c.before.args.a c.before.args.d)
 q_fits c = quotient_fits c.before.args.a c.before.args.d c.before.ranges.a (λ e. absurd (not_minus_one c e))
 
 r_fits : (c : tie.Start) → SFits w64 (rem_z c.args.a c.args.d)
@@ -34,32 +34,32 @@ left_fits : (c : tie.Start) → SFits w64 (floor_remainder c.args.a c.args.d)
 left_fits c = remainder_fits c.args.a c.args.d c.requires c.ranges.d
 
 -- ---- the tests of the signs
-above : (c : tie.Then2) → pos 0 <ℤ c.before.before.args.d
-above c = <ℤ_of_test (rw (to_z-of_z w64 _ c.before.before.ranges.d) at c.if2.true)
+above : (c : tie.Then-d-gt0) → pos 0 <ℤ c.before.before.args.d
+above c = <ℤ_of_test (rw (to_z-of_z w64 _ c.before.before.ranges.d) at c.if-d-gt0.true)
 
-below : (c : tie.Else2) → c.before.before.args.d ≤ℤ pos 0
-below c = ≥ℤ_of_test (rw (to_z-of_z w64 _ c.before.before.ranges.d) at c.if2.false)
+below : (c : tie.Else-d-gt0) → c.before.before.args.d ≤ℤ pos 0
+below c = ≥ℤ_of_test (rw (to_z-of_z w64 _ c.before.before.ranges.d) at c.if-d-gt0.false)
 
 -- ---- the remainder moved by one divisor
 abbrev Moved : tie.Start → Type 0
 Moved s = rem_z s.args.a s.args.d +ℤ s.args.d ≡ floor_remainder s.args.a s.args.d
 
-moved_above : (c : tie.Then3) → Moved c.before.before.before
+moved_above : (c : tie.Then-r-lt0) → Moved c.before.before.before
 moved_above c =
     let s = c.before.before.before in
     (moved_by_positive s.args.a s.args.d (above c.before)
-    (<ℤ_of_test (rw (to_z-of_z w64 _ s.ranges.a, to_z-of_z w64 _ s.ranges.d, to_z-of_z w64 _ (r_fits s)) at c.if3.true))
+    (<ℤ_of_test (rw (to_z-of_z w64 _ s.ranges.a, to_z-of_z w64 _ s.ranges.d, to_z-of_z w64 _ (r_fits s)) at c.if-r-lt0.true))
     ).remainder
 
-moved_below : (c : tie.Then4) → Moved c.before.before.before
+moved_below : (c : tie.Then-r-gt0) → Moved c.before.before.before
 moved_below c =
     let s = c.before.before.before in
     (moved_by_negative s.args.a s.args.d s.requires (below c.before)
-    (<ℤ_of_test (rw (to_z-of_z w64 _ s.ranges.a, to_z-of_z w64 _ s.ranges.d, to_z-of_z w64 _ (r_fits s)) at c.if4.true))
+    (<ℤ_of_test (rw (to_z-of_z w64 _ s.ranges.a, to_z-of_z w64 _ s.ranges.d, to_z-of_z w64 _ (r_fits s)) at c.if-r-gt0.true))
     ).remainder
 
 -- ---- the needs
-returns : tie.Need-returns
+returns : tie.Need-returns-then-d-eqminus1
 returns c =
     let s = c.before in
     let size : nat_abs (floor_remainder s.args.a s.args.d) < 1 =
@@ -67,46 +67,46 @@ returns c =
     in
     sym (nat_abs_zero _ (omega arith))
 
-rem_r : tie.Need-nonzero-rem-r
+rem_r : tie.Need-nonzero_rem-r
 rem_r c =
     let s = c.before in
     rw (to_z-of_z w64 _ s.ranges.a, to_z-of_z w64 _ s.ranges.d) (bits_above_zero s.args.d s.requires s.ranges.d, q_fits c)
 
-add_result : tie.Need-overflow-add-result
+add_result : tie.Need-overflow_add-result
 add_result c =
     let s = c.before.before.before in
     rw (to_z-of_z w64 _ s.ranges.a, to_z-of_z w64 _ s.ranges.d, to_z-of_z w64 _ (r_fits s), moved_above c) (left_fits s)
 
-add_result_2 : tie.Need-overflow-add-result-2
+add_result_2 : tie.Need-overflow_add-result-then-r-gt0
 add_result_2 c =
     let s = c.before.before.before in
     rw (to_z-of_z w64 _ s.ranges.a, to_z-of_z w64 _ s.ranges.d, to_z-of_z w64 _ (r_fits s), moved_below c) (left_fits s)
 
-returns_2 : tie.Need-returns-2
+returns_2 : tie.Need-returns-then-r-lt0
 returns_2 c =
     let s = c.before.before.before in
     rw (to_z-of_z w64 _ s.ranges.a, to_z-of_z w64 _ s.ranges.d, to_z-of_z w64 _ (r_fits s)) (back_as (moved_above c) (left_fits s))
 
-returns_3 : tie.Need-returns-3
+returns_3 : tie.Need-returns-else-r-lt0
 returns_3 c =
     let s = c.before.before.before in
     let e =
     kept_by_positive s.args.a s.args.d (above c.before)
-    (≥ℤ_of_test (rw (to_z-of_z w64 _ s.ranges.a, to_z-of_z w64 _ s.ranges.d, to_z-of_z w64 _ (r_fits s)) at c.if3.false))
+    (≥ℤ_of_test (rw (to_z-of_z w64 _ s.ranges.a, to_z-of_z w64 _ s.ranges.d, to_z-of_z w64 _ (r_fits s)) at c.if-r-lt0.false))
     in
     rw (to_z-of_z w64 _ s.ranges.a, to_z-of_z w64 _ s.ranges.d) (back_as e.remainder (left_fits s))
 
-returns_4 : tie.Need-returns-4
+returns_4 : tie.Need-returns-then-r-gt0
 returns_4 c =
     let s = c.before.before.before in
     rw (to_z-of_z w64 _ s.ranges.a, to_z-of_z w64 _ s.ranges.d, to_z-of_z w64 _ (r_fits s)) (back_as (moved_below c) (left_fits s))
 
-returns_5 : tie.Need-returns-5
+returns_5 : tie.Need-returns-else-r-gt0
 returns_5 c =
     let s = c.before.before.before in
     let e =
     kept_by_negative s.args.a s.args.d s.requires (below c.before)
-    (≥ℤ_of_test (rw (to_z-of_z w64 _ s.ranges.a, to_z-of_z w64 _ s.ranges.d, to_z-of_z w64 _ (r_fits s)) at c.if4.false))
+    (≥ℤ_of_test (rw (to_z-of_z w64 _ s.ranges.a, to_z-of_z w64 _ s.ranges.d, to_z-of_z w64 _ (r_fits s)) at c.if-r-gt0.false))
     in
     rw (to_z-of_z w64 _ s.ranges.a, to_z-of_z w64 _ s.ranges.d) (back_as e.remainder (left_fits s))
 

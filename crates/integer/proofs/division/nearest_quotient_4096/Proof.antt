@@ -34,7 +34,7 @@ more_fits a f =
 shifts_are_nearest : (a : ℤ) → shr_z (shr_z a 2048 +ℤ more) 2 ≡ nearest_quotient a 4096
 shifts_are_nearest a = shift_is_floor _ 2 ∙ ap (λ z. floor_quotient (z +ℤ more) (pos 2)) (shift_is_floor a 2048) ∙ nearest_by_halves a 2048 (omega arith)
 
-add_result : tie.Need-overflow-add-result
+add_result : tie.Need-overflow_add-result
 add_result c = let f = c.ranges.a in rw (to_z-of_z w64 _ f, to_z-of_z w64 _ (halves_fit c.args.a f)) (more_fits c.args.a f)
 
 returns : tie.Need-returns

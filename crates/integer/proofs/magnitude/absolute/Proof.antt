@@ -25,36 +25,36 @@ nat_abs_is : (a : ℤ) → a <ℤ pos 0 → nat_abs a ≡ mag a + 1
 nat_abs_is (pos n) h = absurd (let k = ltb→lt n 0 h.lt in omega arith)
 nat_abs_is (negsuc n) h = omega arith
 
-below : (c : tie.Else1) → c.before.args.a <ℤ pos 0
-below c = >ℤ_of_test (rw (to_z-of_z w64 _ c.before.ranges.a) at c.if1.false)
+below : (c : tie.Else-a-ge0) → c.before.args.a <ℤ pos 0
+below c = >ℤ_of_test (rw (to_z-of_z w64 _ c.before.ranges.a) at c.if-a-ge0.false)
 
-small : (c : tie.Else1) → mag c.before.args.a < 2 ^ 63
+small : (c : tie.Else-a-ge0) → mag c.before.args.a < 2 ^ 63
 small c = c.before.ranges.a.sfits
 
-difference : (c : tie.Else1) → negsuc 0 -ℤ to_z w64 (of_z w64 c.before.args.a) ≡ pos (mag c.before.args.a)
+difference : (c : tie.Else-a-ge0) → negsuc 0 -ℤ to_z w64 (of_z w64 c.before.args.a) ≡ pos (mag c.before.args.a)
 difference c = rw (to_z-of_z w64 _ c.before.ranges.a) (mirrored c.before.args.a (below c))
 
 -- ---- the needs
-cast_result : tie.Need-overflow-cast-result
+cast_result : tie.Need-overflow_cast-result
 cast_result c =
     let s = c.before in
     let t = nat_abs_of_fits s.args.a s.ranges.a in
     rw (to_z-of_z w64 _ s.ranges.a)
-    (yes_non_neg {z = s.args.a} (≤ℤ_of_test (rw (to_z-of_z w64 _ s.ranges.a) at c.if1.true)), record { fits = omega arith })
+    (yes_non_neg {z = s.args.a} (≤ℤ_of_test (rw (to_z-of_z w64 _ s.ranges.a) at c.if-a-ge0.true)), record { fits = omega arith })
 
-sub_result : tie.Need-overflow-sub-result
+sub_result : tie.Need-overflow_sub-result
 sub_result c = rw (difference c) (record { sfits = small c })
 
-cast_result_2 : tie.Need-overflow-cast-result-2
+cast_result_2 : tie.Need-overflow_cast-result-else-a-ge0
 cast_result_2 c = let h = small c in rw (difference c, back {z = pos _} h) (tt, record { fits = omega arith })
 
-add_result : tie.Need-overflow-add-result
+add_result : tie.Need-overflow_add-result
 add_result c = let h = small c in rw (difference c, back {z = pos _} h) (record { fits = omega arith })
 
-returns : tie.Need-returns
+returns : tie.Need-returns-then-a-ge0
 returns c = search rules
 
-returns_2 : tie.Need-returns-2
+returns_2 : tie.Need-returns-else-a-ge0
 returns_2 c = let h = small c in rw (difference c, back {z = pos _} h) (sym (nat_abs_is c.before.args.a (below c)))
 
 pub absolute_spec : {M : Type 1} → statement M
