@@ -16,7 +16,7 @@ fn square_above(v: i64) -> u64
 }
 
 // How far the terms of all pairs (i,i) go above 0, and the sum of their coefficients: what they go above 0 less what they go below it.
-#[derive(Drop)]
+#[derive(Clone, Copy)]
 struct Squares {
     above: u64,
     sum: i64,
@@ -57,7 +57,7 @@ fn range_around(c: i64, radius: u64, p: &[i64; PAIRS]) -> Range
 }
 
 // Whether a row is within the span limit, its radius, and where it is within, the range of its form.
-#[derive(Drop)]
+#[derive(Clone, Copy)]
 pub struct Measured {
     pub within: bool,
     pub radius: u64,

@@ -14,7 +14,7 @@ pub mod sums;
 use limits::{PAIRS, SYMBOLS};
 
 // The numbers of a row: the centre, a coefficient for each noise symbol, and one for each pair of symbols.
-#[derive(Drop)]
+#[derive(Clone, Copy)]
 pub struct Row {
     pub centre: i64,
     pub linear: [i64; SYMBOLS],
@@ -22,14 +22,14 @@ pub struct Row {
 }
 
 // The low and the high end of what a row's value may be.
-#[derive(Drop)]
+#[derive(Clone, Copy)]
 pub struct Range {
     pub low: i64,
     pub high: i64,
 }
 
 // How an operation ended.
-#[derive(Drop)]
+#[derive(Clone, Copy)]
 pub enum Status {
     Accepted,
     SpanPassed,
@@ -39,7 +39,7 @@ pub enum Status {
 
 // The answer of an operation: where it was accepted the row, the sum of its absolute coefficients (its radius) and its own range, zeros beside
 // a refusal.
-#[derive(Drop)]
+#[derive(Clone, Copy)]
 pub struct Answer {
     pub status: Status,
     pub row: Row,

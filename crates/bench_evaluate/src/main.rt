@@ -15,7 +15,7 @@ const TABLE_NUMBERS: usize = 1560;
 
 const RANGES_NUMBERS: usize = 60;
 
-#[derive(Drop)]
+#[derive(Clone, Copy)]
 struct Digits {
     value: usize,
     n: usize,

@@ -18,7 +18,7 @@ ghost use Rattle.evaluation.specs.Asking.{range_of, same_of, part_of};
 pub use work::row_count;
 
 // What a range answers; 0 and 0 beside a refusal.
-#[derive(Drop)]
+#[derive(Clone, Copy)]
 pub struct RangeAnswer {
     pub refusal: Refusal,
     pub low: i64,
@@ -26,7 +26,7 @@ pub struct RangeAnswer {
 }
 
 // What a comparison answers; no beside a refusal.
-#[derive(Drop)]
+#[derive(Clone, Copy)]
 pub struct SameAnswer {
     pub refusal: Refusal,
     pub same: bool,

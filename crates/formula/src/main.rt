@@ -21,7 +21,7 @@ const SQUARES: usize = 2;
 const ENDS: usize = 3;
 
 // A word of the call.
-#[derive(Drop)]
+#[derive(Clone, Copy)]
 enum Word {
     Number(i64),
     Other,
@@ -29,7 +29,7 @@ enum Word {
 
 // The inputs of the call: how many there are, or seven where there are more, and the ends of as many as there is room for. `whole` where every
 // word of them is a number and none is left over.
-#[derive(Drop)]
+#[derive(Clone, Copy)]
 struct Given {
     whole: bool,
     inputs: i64,

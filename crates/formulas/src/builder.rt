@@ -7,7 +7,7 @@ use crate::{MAX_NESTING, MAX_TEXT, Sign, Token, literals, steps, tokens};
 
 // A part of a formula that was read: the position behind it, the row that it is, how many steps there are so far, and the place of the first literal beyond
 // the limits so far, or 0. Where `wrong` is not 0, it is the place of a byte that no formula has there, and nothing else counts.
-#[derive(Drop)]
+#[derive(Clone, Copy)]
 pub struct Part {
     pub wrong: usize,
     pub next: usize,

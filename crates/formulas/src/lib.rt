@@ -18,7 +18,7 @@ pub const MAX_TEXT: usize = 200;
 pub const MAX_NESTING: usize = 16;
 
 // What stands beside a formula: how many inputs there are, how many of them have square terms, and the ends of each.
-#[derive(Drop)]
+#[derive(Clone, Copy)]
 pub struct InputBlock {
     pub inputs: i64,
     pub squares: i64,
@@ -26,7 +26,7 @@ pub struct InputBlock {
 }
 
 // The signs of a formula.
-#[derive(Drop)]
+#[derive(Clone, Copy)]
 pub enum Sign {
     Plus,
     Minus,
@@ -35,7 +35,7 @@ pub enum Sign {
 }
 
 // What a byte of a formula is; a letter by its input, counted from 0.
-#[derive(Drop)]
+#[derive(Clone, Copy)]
 pub enum Token {
     Digit(u64),
     Letter(usize),

@@ -8,7 +8,7 @@ use sheet::END_LIMIT;
 const MOST: u64 = END_LIMIT as u64;
 
 // The value of a literal, or one above the limit for every greater one, and the position past it.
-#[derive(Drop)]
+#[derive(Clone, Copy)]
 pub struct Literal {
     pub value: u64,
     pub next: usize,

@@ -34,7 +34,7 @@ const DIGITS: usize = 16;
 const FIRST_NEGATIVE: u64 = 9223372036854775808;
 
 // What is kept between calls, beside the tables: how many numbers of each are lent, and the schedule.
-#[derive(Drop)]
+#[derive(Clone, Copy)]
 struct State {
     numbers: usize,
     ends: usize,

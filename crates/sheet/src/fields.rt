@@ -8,7 +8,7 @@ use crate::number;
 use crate::number::Field;
 
 // A line of up to four numbers: whether it is one, where the next line starts, and the numbers.
-#[derive(Drop)]
+#[derive(Clone, Copy)]
 pub struct Fields {
     pub ok: bool,
     pub next: usize,

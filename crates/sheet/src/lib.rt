@@ -34,14 +34,14 @@ pub const LAST_BINARY: i64 = 4;
 pub const LAST_CODE: i64 = 6;
 
 // The ends of an input.
-#[derive(Drop)]
+#[derive(Clone, Copy)]
 pub struct End {
     pub low: i64,
     pub high: i64,
 }
 
 // A step: its code, the rows that it names, and a constant.
-#[derive(Drop)]
+#[derive(Clone, Copy)]
 pub struct Step {
     pub code: i64,
     pub first: i64,
@@ -50,7 +50,7 @@ pub struct Step {
 }
 
 // A schedule: its counts, and with room for all that the limits allow the ends of its inputs and its steps.
-#[derive(Drop)]
+#[derive(Clone, Copy)]
 pub struct Schedule {
     pub inputs: i64,
     pub squares: i64,
@@ -60,28 +60,28 @@ pub struct Schedule {
 }
 
 // Number and place of a refusal (manual, section 6); both 0 for an accepted call.
-#[derive(Drop)]
+#[derive(Clone, Copy)]
 pub struct Refusal {
     pub number: u64,
     pub place: usize,
 }
 
 // What reading answers; a schedule of zeros beside a refusal.
-#[derive(Drop)]
+#[derive(Clone, Copy)]
 pub struct ReadAnswer {
     pub refusal: Refusal,
     pub schedule: Schedule,
 }
 
 // What a call that writes into lent bytes answers: the length of what it wrote, 0 beside a refusal.
-#[derive(Drop)]
+#[derive(Clone, Copy)]
 pub struct WriteAnswer {
     pub refusal: Refusal,
     pub length: usize,
 }
 
 // What a text line is: a line of names, or one of counts, of an input's ends, of a step (its index, and how many rows are earlier).
-#[derive(Drop)]
+#[derive(Clone, Copy)]
 pub enum Line {
     CountNames,
     CountLine,

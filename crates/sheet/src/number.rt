@@ -5,14 +5,14 @@ ghost use Rattle.sheet.specs.Text.{decimal, numeral};
 ghost use Rattle.sheet.specs.Wrote.{Wrote};
 
 // A run of digits: its value, and the position past it.
-#[derive(Drop)]
+#[derive(Clone, Copy)]
 pub struct Run {
     pub value: u64,
     pub next: usize,
 }
 
 // What stands at a position: a number with its end byte, or something else.
-#[derive(Drop)]
+#[derive(Clone, Copy)]
 pub enum Field {
     Number { value: i64, next: usize },
     Broken,

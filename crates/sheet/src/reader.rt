@@ -9,7 +9,7 @@ ghost use Rattle.sheet.specs.LineRead.{broken_line, told_of};
 use crate::{Line, Refusal, Schedule, fields, lines, tests};
 
 // A part of the sheet that was read or refused: where the next line starts, and the schedule so far.
-#[derive(Drop)]
+#[derive(Clone, Copy)]
 pub struct Part {
     pub refusal: Refusal,
     pub next: usize,
@@ -71,7 +71,7 @@ fn names_length(l: Line) -> usize
 }
 
 // What stands on a line: the cause for which it is refused, or 0; where the next line starts, and the line's numbers.
-#[derive(Drop)]
+#[derive(Clone, Copy)]
 pub struct LineRead {
     pub number: u64,
     pub next: usize,

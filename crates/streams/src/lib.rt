@@ -12,7 +12,7 @@ ghost use Rattle.streams.specs.Count.{CountsIn};
 const RETRIES: u64 = 18446744073709551615;
 
 // What reading the input came to: so many bytes at the start of the buffer, or a failure (errno says which).
-#[derive(Drop)]
+#[derive(Clone, Copy)]
 pub enum Input {
     Read(usize),
     Failed,

@@ -8,19 +8,19 @@ use Rattle.sheet.specs.Reading.{read_of, answer}
 use Rattle.sheet.proofs.read.Statement.{statement}
 use Rattle.sheet.proofs.read.Tie as tie
 
-zero_schedule_requires : tie.Need-zero-schedule-requires
+zero_schedule_requires : tie.Need-zero_schedule-requires
 zero_schedule_requires c κs = search rules
 
-returns : tie.Need-returns
+returns : tie.Need-returns-then-bytes-gt-MAX_BYTES
 unfolding read_of
-returns c = rw c.zero-schedule.ensures (simp (lt-ltb max_bytes (length c.before.before.before.args.bytes.now) c.before.if1.true))
+returns c = rw c.zero_schedule.ensures (simp (lt-ltb max_bytes (length c.before.before.before.args.bytes.now) c.before.if-bytes-gt-MAX_BYTES.true))
 
-read_sheet_requires : tie.Need-read-sheet-requires
+read_sheet_requires : tie.Need-read_sheet-p-requires
 read_sheet_requires c κs = search rules
 
-returns_2 : tie.Need-returns-2
+returns_2 : tie.Need-returns
 unfolding read_of
-returns_2 c = ap answer c.before.before.read-sheet.ensures ∙ simp (le-ltb max_bytes (length c.before.before.before.before.before.args.bytes.now) c.before.before.before.if1.false)
+returns_2 c = ap answer c.before.before.read_sheet-p.ensures ∙ simp (le-ltb max_bytes (length c.before.before.before.before.before.args.bytes.now) c.before.before.before.if-bytes-gt-MAX_BYTES.false)
 
 pub read_spec : {M : Type 1} → statement M
 read_spec = tie.close (tie.spec zero_schedule_requires returns read_sheet_requires returns_2)

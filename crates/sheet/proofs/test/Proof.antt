@@ -27,68 +27,68 @@ steps_back : (s : tie.Start) → to_z w64 (of_z w64 s.args.schedule.steps) ≡ s
 steps_back s = search rules
 
 -- what `counts_pass` answered, of the counts themselves
-counts_are : (c : tie.After-counts-pass)
+counts_are : (c : tie.After-counts_pass)
     → counts_pass c.before.before.before.before.args.schedule.inputs c.before.before.before.before.args.schedule.squares c.before.before.before.before.args.schedule.steps
-    ≡ c.counts-pass.result
-counts_are c = let s = c.before.before.before.before in sym (rw (inputs_back s, squares_back s, steps_back s) at c.counts-pass.ensures)
+    ≡ c.counts_pass.result
+counts_are c = let s = c.before.before.before.before in sym (rw (inputs_back s, squares_back s, steps_back s) at c.counts_pass.ensures)
 
-passes : (c : tie.Else1)
+passes : (c : tie.Else-not-counts_pass)
     → counts_pass c.before.before.before.before.before.args.schedule.inputs c.before.before.before.before.before.args.schedule.squares c.before.before.before.before.before.args.schedule.steps
     ≡ true
-passes c = counts_are c.before ∙ not-false c.before.counts-pass.result c.if1.false
+passes c = counts_are c.before ∙ not-false c.before.counts_pass.result c.if-not-counts_pass.false-raw
 
-counts_in : (c : tie.Else1)
+counts_in : (c : tie.Else-not-counts_pass)
     → CountsPassed c.before.before.before.before.before.args.schedule.inputs c.before.before.before.before.before.args.schedule.squares c.before.before.before.before.before.args.schedule.steps
 counts_in c = let s = c.before.before.before.before.before.args.schedule in counts_passed s.inputs s.squares s.steps (passes c)
 
 -- what the casts read
-inputs_cast : (c : tie.Else1) → to_z w64 (of_z w64 c.before.before.before.before.before.args.schedule.inputs) ≡ pos (natural c.before.before.before.before.before.args.schedule.inputs)
+inputs_cast : (c : tie.Else-not-counts_pass) → to_z w64 (of_z w64 c.before.before.before.before.before.args.schedule.inputs) ≡ pos (natural c.before.before.before.before.before.args.schedule.inputs)
 inputs_cast c = inputs_back c.before.before.before.before.before ∙ (counts_in c).inputs_in.is
 
-steps_cast : (c : tie.Else1) → to_z w64 (of_z w64 c.before.before.before.before.before.args.schedule.steps) ≡ pos (natural c.before.before.before.before.before.args.schedule.steps)
+steps_cast : (c : tie.Else-not-counts_pass) → to_z w64 (of_z w64 c.before.before.before.before.before.args.schedule.steps) ≡ pos (natural c.before.before.before.before.before.args.schedule.steps)
 steps_cast c = steps_back c.before.before.before.before.before ∙ (counts_in c).steps_in.is
 
 -- what `test_ends` answered, of the inputs as a natural number
-ends_are : (c : tie.After-test-ends)
-    → c.test-ends.result ≡ test_lines (natural c.before.before.before.before.before.before.before.before.args.schedule.inputs) 4 c.before.before.before.before.before.before.before.before.args.schedule
-ends_are c = rw (inputs_cast c.before.before.before) at c.test-ends.ensures
+ends_are : (c : tie.After-test_ends-ends)
+    → c.test_ends-ends.result ≡ test_lines (natural c.before.before.before.before.before.before.before.before.args.schedule.inputs) 4 c.before.before.before.before.before.before.before.before.args.schedule
+ends_are c = rw (inputs_cast c.before.before.before) at c.test_ends-ends.ensures
 
-counts_pass_requires : tie.Need-counts-pass-requires
+counts_pass_requires : tie.Need-counts_pass-requires
 counts_pass_requires c κs = search rules
 
-returns : tie.Need-returns
+returns : tie.Need-returns-then-not-counts_pass
 returns c =
     let s = c.before.before.before.before.before.args.schedule in
-    sym (rw (counts_are c.before ∙ not-true c.before.counts-pass.result c.if1.true) at (test_blocks s))
+    sym (rw (counts_are c.before ∙ not-true c.before.counts_pass.result c.if-not-counts_pass.true-raw) at (test_blocks s))
 
-cast_inputs : tie.Need-overflow-cast-inputs
+cast_inputs : tie.Need-overflow_cast-inputs
 cast_inputs c = let e = c.before.before in rw (inputs_cast e) (tt, record { fits = omega (arith, (counts_in e).inputs_in.to) })
 
-test_ends_requires : tie.Need-test-ends-requires
+test_ends_requires : tie.Need-test_ends-ends-requires
 test_ends_requires c κs = let e = c.before.before in rw (inputs_cast e) (refl, (counts_in e).inputs_in.to)
 
-returns_2 : tie.Need-returns-2
+returns_2 : tie.Need-returns-then-ends-ne0
 returns_2 c =
     let s = c.before.before.before.before.before.before.before.before.before.before.args.schedule in
     let a = ends_are c.before.before in
-    let n = ne_eqb (test_lines (natural s.inputs) 4 s).number 0 (λ z. c.if2.true (ap (λ (r : Refusal). r.number) a ∙ z)) in
+    let n = ne_eqb (test_lines (natural s.inputs) 4 s).number 0 (λ z. c.if-ends-ne0.true-raw (ap (λ (r : Refusal). r.number) a ∙ z)) in
     a ∙ sym (rw (passes c.before.before.before.before.before, n) at (test_blocks s))
 
-cast_test_steps : tie.Need-overflow-cast-test-steps
+cast_test_steps : tie.Need-overflow_cast-schedule
 cast_test_steps c = let e = c.before.before.before.before.before.before.before in rw (steps_cast e) (tt, record { fits = omega (arith, (counts_in e).steps_in.to) })
 
-test_steps_requires : tie.Need-test-steps-requires
+test_steps_requires : tie.Need-test_steps-requires
 test_steps_requires c κs =
     let e = c.before.before.before.before.before.before.before in
     rw (inputs_cast e, steps_cast e) (refl, (counts_in e).inputs_in.to, (counts_in e).steps_in.to)
 
-returns_3 : tie.Need-returns-3
+returns_3 : tie.Need-returns
 returns_3 c =
     let e = c.before.before.before.before.before.before.before.before in
     let s = e.before.before.before.before.before.args.schedule in
     let a = ends_are c.before.before.before.before.before in
-    let n = eq-eqb (test_lines (natural s.inputs) 4 s).number 0 (ap (λ (r : Refusal). r.number) (sym a) ∙ c.before.before.before.if2.false) in
-    (rw (inputs_cast e, steps_cast e) at c.test-steps.ensures) ∙ sym (rw (passes e, n) at (test_blocks s))
+    let n = eq-eqb (test_lines (natural s.inputs) 4 s).number 0 (ap (λ (r : Refusal). r.number) (sym a) ∙ c.before.before.before.if-ends-ne0.false-raw) in
+    (rw (inputs_cast e, steps_cast e) at c.test_steps.ensures) ∙ sym (rw (passes e, n) at (test_blocks s))
 
 pub test_spec : {M : Type 1} → statement M
 test_spec =

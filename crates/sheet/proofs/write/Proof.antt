@@ -19,78 +19,78 @@ use Rattle.sheet.proofs.write.Statement.{statement}
 use Rattle.sheet.proofs.write.Tie as tie
 
 -- the schedule passed, so its counts are small
-passes : (c : tie.Else1) → (test_of c.before.before.before.before.args.schedule).number ≡ 0
-passes c = ap (λ (r : Refusal). r.number) (sym c.before.before.test.ensures) ∙ c.if1.false
+passes : (c : tie.Else-refusal-ne0) → (test_of c.before.before.before.before.args.schedule).number ≡ 0
+passes c = ap (λ (r : Refusal). r.number) (sym c.before.before.test-refusal.ensures) ∙ c.if-refusal-ne0.false
 
-counts_small : (c : tie.Else1) → lines_left c.before.before.before.before.args.schedule ≤ 1000
+counts_small : (c : tie.Else-refusal-ne0) → lines_left c.before.before.before.before.args.schedule ≤ 1000
 counts_small c = omega (arith, lines_left_small c.before.before.before.before.args.schedule (passed c.before.before.before.before.args.schedule (passes c)).counts)
 
 -- what `put_lines` wrote aside is the sheet
-sheet_is : (c : tie.After-put-lines) → Wrote (replicate max_bytes 0) c.put-lines.new.0 0 c.put-lines.result (sheet_text c.before.before.before.before.before.before.before.args.schedule)
+sheet_is : (c : tie.After-put_lines-n) → Wrote (replicate max_bytes 0) c.put_lines-n.new.0 0 c.put_lines-n.result (sheet_text c.before.before.before.before.before.before.before.args.schedule)
 unfolding sheet_text
-sheet_is c = rw c.before.lines_left.ensures at c.put-lines.ensures
+sheet_is c = rw c.before.lines_left.ensures at c.put_lines-n.ensures
 
-test_requires : tie.Need-test-requires
+test_requires : tie.Need-test-refusal-requires
 test_requires c κs = search rules
 
-returns : tie.Need-returns
+returns : tie.Need-returns-then-refusal-ne0
 returns c =
     let a = c.before.before.before.before.args in
-    let e = c.before.before.test.ensures in
-    let w = write_refused a.schedule a.out.now (λ z. c.if1.true (ap (λ (r : Refusal). r.number) e ∙ z)) in
+    let e = c.before.before.test-refusal.ensures in
+    let w = write_refused a.schedule a.out-1.now (λ z. c.if-refusal-ne0.true (ap (λ (r : Refusal). r.number) e ∙ z)) in
     record { answers = ap not_written e ∙ w.0; leaves = w.1 }
 
-slice_aggregate_put_lines : tie.Need-slice-aggregate-put-lines
+slice_aggregate_put_lines : tie.Need-slice_bounds-put_lines-end
 slice_aggregate_put_lines c = search rules
 
-lines_left_requires : tie.Need-lines-left-requires
+lines_left_requires : tie.Need-lines_left-requires
 lines_left_requires c κs = omega (arith, counts_small c.before)
 
-add_put_lines : tie.Need-overflow-add-put-lines
+add_put_lines : tie.Need-overflow_add-lines_left
 add_put_lines c = record { fits = omega (arith, counts_small c.before.before, c.lines_left.ensures) }
 
-put_lines_requires : tie.Need-put-lines-requires
+put_lines_requires : tie.Need-put_lines-n-requires
 unfolding sheet_text
 put_lines_requires c κs =
     let n = c.lines_left.ensures in
     (rw n (sheet_short c.before.before.before.before.before.before.args.schedule (passes c.before.before)), omega (arith, counts_small c.before.before, n))
 
-returns_2 : tie.Need-returns-2
+returns_2 : tie.Need-returns-then-out-n
 returns_2 c =
     let a = c.before.before.before.before.before.before.before.before.before.args in
     let f = sheet_is c.before.before in
-    let w = write_short a.schedule a.out.now (passes c.before.before.before.before.before) (omega (arith, f.ends)) in
+    let w = write_short a.schedule a.out-1.now (passes c.before.before.before.before.before) (omega (arith, f.ends)) in
     record { answers = w.0; leaves = w.1 }
 
-sub_put_bytes : tie.Need-overflow-sub-put-bytes
+sub_put_bytes : tie.Need-slice_bounds-put_bytes-count
 sub_put_bytes c = search rules
 
-part_put_bytes_start : tie.Need-slice-bounds-put-bytes-start
+part_put_bytes_start : tie.Need-slice_bounds-put_bytes-start
 part_put_bytes_start c = search rules
 
-part_put_bytes_end : tie.Need-slice-bounds-put-bytes-end
+part_put_bytes_end : tie.Need-slice_bounds-put_bytes-end
 part_put_bytes_end c =
-    let f = c.before.before.before.before.put-lines in
+    let f = c.before.before.before.before.put_lines-n in
     omega (arith, (sheet_is c.before.before.before.before).ends, f.auto.0, sheet_short c.before.before.before.before.before.before.before.before.before.before.before.args.schedule (passes c.before.before.before.before.before.before.before))
 
-put_bytes_requires : tie.Need-put-bytes-requires
+put_bytes_requires : tie.Need-put_bytes-requires
 put_bytes_requires c κs = search rules
 
-same_length : tie.Need-same-length
+same_length : tie.Need-shape_of-out
 same_length c = search rules
 
-returns_3 : tie.Need-returns-3
+returns_3 : tie.Need-returns
 returns_3 c =
     let a = c.before.before.before.before.before.before.before.before.before.before.before.before.before.before.before.args in
     let t : List ℕ = sheet_text a.schedule in
     let z = passes c.before.before.before.before.before.before.before.before.before.before.before in
     let f = sheet_is c.before.before.before.before.before.before.before.before in
-    let n : c.before.before.before.before.before.before.before.before.put-lines.result ≡ length t = omega (arith, f.ends) in
-    let d = write_done a.schedule a.out.now z (omega (arith, c.before.before.before.before.before.before.if2.false)) in
-    let s : slice 0 c.before.before.before.before.before.before.before.before.put-lines.result c.before.before.before.before.before.before.before.before.put-lines.new.0 ≡ t = rw (n, f.is) (take_sets t (replicate max_bytes 0) (sheet_short a.schedule z)) in
-    let r : c.before.before.before.before.before.before.before.before.before.before.before.before.before.test.result ≡ accepted = c.before.before.before.before.before.before.before.before.before.before.before.before.before.test.ensures ∙ test_accepted a.schedule z in
-    let k : c.before.before.before.before.before.before.before.before.put-lines.result - 0 ≡ c.before.before.before.before.before.before.before.before.put-lines.result = omega arith in
-    let w : c.before.before.put-bytes.new.0 ≡ sets a.out.now 0 (slice 0 (c.before.before.before.before.before.before.before.before.put-lines.result - 0) c.before.before.before.before.before.before.before.before.put-lines.new.0) = c.before.before.put-bytes.ensures.is in
+    let n : c.before.before.before.before.before.before.before.before.put_lines-n.result ≡ length t = omega (arith, f.ends) in
+    let d = write_done a.schedule a.out-1.now z (omega (arith, c.before.before.before.before.before.before.if-out-n.false)) in
+    let s : slice 0 c.before.before.before.before.before.before.before.before.put_lines-n.result c.before.before.before.before.before.before.before.before.put_lines-n.new.0 ≡ t = rw (n, f.is) (take_sets t (replicate max_bytes 0) (sheet_short a.schedule z)) in
+    let r : c.before.before.before.before.before.before.before.before.before.before.before.before.before.test-refusal.result ≡ accepted = c.before.before.before.before.before.before.before.before.before.before.before.before.before.test-refusal.ensures ∙ test_accepted a.schedule z in
+    let k : c.before.before.before.before.before.before.before.before.put_lines-n.result - 0 ≡ c.before.before.before.before.before.before.before.before.put_lines-n.result = omega arith in
+    let w : c.before.before.put_bytes.new.0 ≡ sets a.out-1.now 0 (slice 0 (c.before.before.before.before.before.before.before.before.put_lines-n.result - 0) c.before.before.before.before.before.before.before.before.put_lines-n.new.0) = c.before.before.put_bytes.ensures.is in
     record { answers = rw (r, n) d.0; leaves = w ∙ rw (k, s) d.1 }
 
 pub write_spec : {M : Type 1} → statement M

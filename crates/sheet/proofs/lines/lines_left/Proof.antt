@@ -9,13 +9,13 @@ use Rattle.sheet.proofs.lines.lines_left.Statement.{statement}
 use Rattle.sheet.proofs.lines.lines_left.Tie as tie
 
 -- what `natural` answered, of the counts themselves and not of what the machine reads back from their bits
-counts : (c : tie.After-natural2)
-    → (c.before.before.natural.result ≡ natural c.before.before.before.before.args.c.inputs) × (c.natural2.result ≡ natural c.before.before.before.before.args.c.steps)
+counts : (c : tie.After-natural-2)
+    → (c.before.before.natural.result ≡ natural c.before.before.before.before.args.c.inputs) × (c.natural-2.result ≡ natural c.before.before.before.before.args.c.steps)
 counts c =
     let s = c.before.before.before.before in
     let e : to_z w64 (of_z w64 s.args.c.inputs) ≡ s.args.c.inputs = search rules in
     let f : to_z w64 (of_z w64 s.args.c.steps) ≡ s.args.c.steps = search rules in
-    (c.before.before.natural.ensures ∙ ap natural e, c.natural2.ensures ∙ ap natural f)
+    (c.before.before.natural.ensures ∙ ap natural e, c.natural-2.ensures ∙ ap natural f)
 
 natural_requires : tie.Need-natural-requires
 natural_requires c κs = search rules
@@ -23,10 +23,10 @@ natural_requires c κs = search rules
 natural_requires_2 : tie.Need-natural-requires-2
 natural_requires_2 c κs = search rules
 
-add_result : tie.Need-overflow-add-result
+add_result : tie.Need-overflow_add-result
 add_result c = let r = counts c in record { fits = omega (arith, c.before.before.before.before.requires) }
 
-add_result_2 : tie.Need-overflow-add-result-2
+add_result_2 : tie.Need-overflow_add-result-2
 add_result_2 c = let r = counts c in record { fits = omega (arith, c.before.before.before.before.requires) }
 
 returns : tie.Need-returns

@@ -5,16 +5,16 @@ use Rattle.sheet.specs.Lines.{natural}
 use Rattle.sheet.proofs.lines.natural.Statement.{statement}
 use Rattle.sheet.proofs.lines.natural.Tie as tie
 
-cast_result : tie.Need-overflow-cast-result
-cast_result c = let s = c.before in (cast_from_zero s.args.z s.ranges.z c.if1.false).fits
+cast_result : tie.Need-overflow_cast-result
+cast_result c = let s = c.before in (cast_from_zero s.args.z s.ranges.z c.if-z-lt0.false).fits
 
-returns : tie.Need-returns
-returns c = let s = c.before in rw (below_zero s.args.z s.ranges.z c.if1.true)
+returns : tie.Need-returns-then-z-lt0
+returns c = let s = c.before in rw (below_zero s.args.z s.ranges.z c.if-z-lt0.true)
 
-returns_2 : tie.Need-returns-2
+returns_2 : tie.Need-returns-else-z-lt0
 returns_2 c =
     let s = c.before in
-    (cast_from_zero s.args.z s.ranges.z c.if1.false).is ∙ sym (ap natural (from_zero s.args.z s.ranges.z c.if1.false))
+    (cast_from_zero s.args.z s.ranges.z c.if-z-lt0.false).is ∙ sym (ap natural (from_zero s.args.z s.ranges.z c.if-z-lt0.false))
 
 pub natural_spec : {M : Type 1} → statement M
 natural_spec = tie.close (tie.spec cast_result returns returns_2)

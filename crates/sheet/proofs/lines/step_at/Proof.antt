@@ -8,17 +8,17 @@ use Rattle.sheet.specs.Lines.{zero_step}
 use Rattle.sheet.proofs.lines.step_at.Statement.{statement}
 use Rattle.sheet.proofs.lines.step_at.Tie as tie
 
-mul_result : tie.Need-overflow-mul-result
+mul_result : tie.Need-offset_bounds-c-i
 mul_result c = search rules
 
-element_copy_out_result : tie.Need-element-copy-out-result
+element_copy_out_result : tie.Need-bounds-c-i
 element_copy_out_result c = search rules
 
-returns : tie.Need-returns
+returns : tie.Need-returns-then-i-lt-MAX_STEPS
 returns c = search rules
 
 -- the length of the array comes from what is known of a schedule that is passed: its entry for that field
-returns_2 : tie.Need-returns-2
+returns_2 : tie.Need-returns-else-i-lt-MAX_STEPS
 returns_2 c =
     let s = c.before in
     let n : length s.args.t1.step ≡ max_steps = sym (length-map s.args.t1.step _) ∙ s.well-formed.0.1.1.1.1.1.1.0.1.0.1 in

@@ -8,7 +8,7 @@ use Rattle.sheet.proofs.Digits.{run_within}
 use Rattle.sheet.proofs.number.after_sign.Statement.{statement}
 use Rattle.sheet.proofs.number.after_sign.Tie as tie
 
-digits_requires : tie.Need-digits-requires
+digits_requires : tie.Need-digits-r-requires
 digits_requires c κs = search rules
 
 byte_requires : tie.Need-byte-requires
@@ -20,7 +20,7 @@ byte_requires_2 c κs = search rules
 judge_requires : tie.Need-judge-requires
 judge_requires c κs =
     let a = c.before.before.before.before.args in
-    let w = rw (← c.before.before.digits.ensures) at (run_within 0 a.q (drop a.q a.s.now) (omega arith)) in
+    let w = rw (← c.before.before.digits-r.ensures) at (run_within 0 a.q (drop a.q a.s.now) (omega arith)) in
     let n = length-drop a.q a.s.now in
     let g = c.before.before.before.before.well-formed in
     (w.small, omega (arith, w.upto), omega arith)
@@ -28,8 +28,8 @@ judge_requires c κs =
 returns : tie.Need-returns
 unfolding after_sign
 returns c =
-    let e = c.before.before.before.digits.ensures in
-    c.judge.ensures ∙ rw (c.before.before.byte.ensures, c.before.byte2.ensures, e)
+    let e = c.before.before.before.digits-r.ensures in
+    c.judge.ensures ∙ rw (c.before.before.byte.ensures, c.before.byte-2.ensures, e)
 
 pub after_sign_spec : {M : Type 1} → statement M
 after_sign_spec =

@@ -14,57 +14,57 @@ use Rattle.sheet.proofs.number.put_number.Statement.{statement}
 use Rattle.sheet.proofs.number.put_number.Tie as tie
 
 -- what `size` answered is the absolute value of v itself
-size_is : (c : tie.After-size) → c.size.result ≡ nat_abs c.before.before.args.v
-size_is c = let s = c.before.before in c.size.ensures ∙ ap nat_abs (to_z-of_z w64 s.args.v s.ranges.v)
+size_is : (c : tie.After-size-n) → c.size-n.result ≡ nat_abs c.before.before.args.v
+size_is c = let s = c.before.before in c.size-n.ensures ∙ ap nat_abs (to_z-of_z w64 s.args.v s.ranges.v)
 
-size_requires : tie.Need-size-requires
+size_requires : tie.Need-size-n-requires
 size_requires c κs = search rules
 
-put_byte_requires : tie.Need-put-byte-requires
+put_byte_requires : tie.Need-put_byte-p-requires
 put_byte_requires c κs =
     let s = c.before.before.before.before in
-    omega (arith, ap length (numeral_below s.args.v s.ranges.v c.before.if1.true))
+    omega (arith, ap length (numeral_below s.args.v s.ranges.v c.before.if-v-lt0.true))
 
-put_digits_requires : tie.Need-put-digits-requires
+put_digits_requires : tie.Need-put_digits-requires
 put_digits_requires c κs =
     let s = c.before.before.before.before.before.before.before.before in
-    let f = c.before.before.before.put_byte in
+    let f = c.before.before.before.put_byte-p in
     omega (
       arith,
-      ap length (numeral_below s.args.v s.ranges.v c.before.before.before.before.before.if1.true),
+      ap length (numeral_below s.args.v s.ranges.v c.before.before.before.before.before.if-v-lt0.true),
       ap (λ (m : ℕ). length (decimal 10 m)) (size_is c.before.before.before.before.before.before),
       f.ensures.ends,
       f.auto.0,
     )
 
-put_digits_requires_2 : tie.Need-put-digits-requires-2
+put_digits_requires_2 : tie.Need-put_digits-requires-else-v-lt0
 put_digits_requires_2 c κs =
     let s = c.before.before.before.before in
     omega (
       arith,
-      ap length (numeral_above s.args.v s.ranges.v c.before.if1.false),
+      ap length (numeral_above s.args.v s.ranges.v c.before.if-v-lt0.false),
       ap (λ (m : ℕ). length (decimal 10 m)) (size_is c.before.before),
     )
 
-same_length : tie.Need-same-length
+same_length : tie.Need-shape_of-out-then-v-lt0
 same_length c = search rules
 
-returns : tie.Need-returns
+returns : tie.Need-returns-then-v-lt0
 returns c =
     let t = c.before.before.before.before.before.before.before.before.before in
     let s = t.before.before in
-    rw (numeral_below s.args.v s.ranges.v c.before.before.before.before.before.before.before.before.if1.true, ← size_is t)
-    (wrote_then c.before.before.before.before.before.before.put_byte.ensures c.before.before.put-digits.ensures)
+    rw (numeral_below s.args.v s.ranges.v c.before.before.before.before.before.before.before.before.if-v-lt0.true, ← size_is t)
+    (wrote_then c.before.before.before.before.before.before.put_byte-p.ensures c.before.before.put_digits.ensures)
 
-same_length_2 : tie.Need-same-length-2
+same_length_2 : tie.Need-shape_of-out-else-v-lt0
 same_length_2 c = search rules
 
-returns_2 : tie.Need-returns-2
+returns_2 : tie.Need-returns-else-v-lt0
 returns_2 c =
     let t = c.before.before.before.before.before in
     let s = t.before.before in
-    rw (numeral_above s.args.v s.ranges.v c.before.before.before.before.if1.false, ← size_is t)
-    c.before.before.put-digits2.ensures
+    rw (numeral_above s.args.v s.ranges.v c.before.before.before.before.if-v-lt0.false, ← size_is t)
+    c.before.before.put_digits-else-v-lt0.ensures
 
 pub put_number_spec : {M : Type 1} → statement M
 put_number_spec =

@@ -4,7 +4,7 @@ use Rattle.sheet.specs.Reading.{starts}
 use Rattle.sheet.proofs.reader.names_stand.Statement.{statement}
 use Rattle.sheet.proofs.reader.names_stand.Tie as tie
 
-enum_told : tie.Need-enum-told
+enum_told : tie.Need-enum_told-1
 enum_told c = search rules
 
 slice_aggregate_stands : tie.Need-slice-aggregate-stands
@@ -13,53 +13,53 @@ slice_aggregate_stands c = search rules
 stands_requires : tie.Need-stands-requires
 stands_requires c κs = search rules
 
-enum_told_2 : tie.Need-enum-told-2
+enum_told_2 : tie.Need-enum_told-in-EndNames
 enum_told_2 c = search rules
 
 slice_aggregate_stands_2 : tie.Need-slice-aggregate-stands-2
 slice_aggregate_stands_2 c = search rules
 
-stands_requires_2 : tie.Need-stands-requires-2
+stands_requires_2 : tie.Need-stands-requires-in-EndNames
 stands_requires_2 c κs = search rules
 
-enum_told_3 : tie.Need-enum-told-3
+enum_told_3 : tie.Need-enum_told-in-StepNames
 enum_told_3 c = search rules
 
 slice_aggregate_stands_3 : tie.Need-slice-aggregate-stands-3
 slice_aggregate_stands_3 c = search rules
 
-stands_requires_3 : tie.Need-stands-requires-3
+stands_requires_3 : tie.Need-stands-requires-in-StepNames
 stands_requires_3 c κs = search rules
 
-enum_told_4 : tie.Need-enum-told-4
+enum_told_4 : tie.Need-enum_told-in-CountLine
 enum_told_4 c = search rules
 
-enum_told_5 : tie.Need-enum-told-5
+enum_told_5 : tie.Need-enum_told-in-EndLine
 enum_told_5 c = search rules
 
-enum_told_6 : tie.Need-enum-told-6
+enum_told_6 : tie.Need-enum_told-in-StepLine
 enum_told_6 c = search rules
 
-returns : tie.Need-returns
-returns c = rw c.before.before.enum_told.given.1 c.stands.ensures
+returns : tie.Need-returns-in-CountNames
+returns c = rw c.before.before.enum_told-1.given.1 c.stands.ensures
 
-returns_2 : tie.Need-returns-2
-returns_2 c = rw c.before.before.enum-told2.given.1 c.stands2.ensures
+returns_2 : tie.Need-returns-in-EndNames
+returns_2 c = rw c.before.before.enum_told-in-EndNames-1.given.1 c.stands-in-EndNames.ensures
 
-returns_3 : tie.Need-returns-3
-returns_3 c = rw c.before.before.enum-told3.given.1 c.stands3.ensures
+returns_3 : tie.Need-returns-in-StepNames
+returns_3 c = rw c.before.before.enum_told-in-StepNames-1.given.1 c.stands-in-StepNames.ensures
 
-returns_4 : tie.Need-returns-4
+returns_4 : tie.Need-returns-in-CountLine
 unfolding starts
-returns_4 c = rw c.enum-told4.given.1
+returns_4 c = rw c.enum_told-in-CountLine-1.given.1
 
-returns_5 : tie.Need-returns-5
+returns_5 : tie.Need-returns-in-EndLine
 unfolding starts
-returns_5 c = rw c.enum-told5.given.1
+returns_5 c = rw c.enum_told-in-EndLine-1.given.1
 
-returns_6 : tie.Need-returns-6
+returns_6 : tie.Need-returns-in-StepLine
 unfolding starts
-returns_6 c = rw c.enum-told6.given.1
+returns_6 c = rw c.enum_told-in-StepLine-1.given.1
 
 pub names_stand_spec : {M : Type 1} → statement M
 names_stand_spec =

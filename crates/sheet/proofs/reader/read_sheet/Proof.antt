@@ -16,105 +16,105 @@ use Rattle.sheet.proofs.reader.read_sheet.Statement.{statement}
 use Rattle.sheet.proofs.reader.read_sheet.Tie as tie
 
 -- the counts, which are within their limits
-first_zero : (c : tie.Else1) → (first_part c.before.before.before.args.s.now).refusal.number ≡ 0
-first_zero c = ap (λ (p : Part). p.refusal.number) (sym c.before.read-counts.ensures) ∙ c.if1.false
+first_zero : (c : tie.Else-number-ne0) → (first_part c.before.before.before.args.s.now).refusal.number ≡ 0
+first_zero c = ap (λ (p : Part). p.refusal.number) (sym c.before.read_counts-p.ensures) ∙ c.if-number-ne0.false
 
-first_read : (c : tie.Else1) → FirstAre c.before.before.before.args.s.now 0 c.before.read-counts.result
-first_read c = rw c.before.read-counts.ensures (first_sound c.before.before.before.args.s.now 0 (omega arith) (first_zero c))
+first_read : (c : tie.Else-number-ne0) → FirstAre c.before.before.before.args.s.now 0 c.before.read_counts-p.result
+first_read c = rw c.before.read_counts-p.ensures (first_sound c.before.before.before.args.s.now 0 (omega arith) (first_zero c))
 
-counts : (c : tie.After-natural2)
-    → (c.before.before.natural.result ≡ natural c.before.before.before.before.before.before.read-counts.result.schedule.inputs)
-    × (c.natural2.result ≡ natural c.before.before.before.before.before.before.read-counts.result.schedule.steps)
+counts : (c : tie.After-natural-steps)
+    → (c.before.before.natural-inputs.result ≡ natural c.before.before.before.before.before.before.read_counts-p.result.schedule.inputs)
+    × (c.natural-steps.result ≡ natural c.before.before.before.before.before.before.read_counts-p.result.schedule.steps)
 counts c =
-    let d = c.before.before.before.before.before.before.read-counts.result.schedule in
+    let d = c.before.before.before.before.before.before.read_counts-p.result.schedule in
     let e : to_z w64 (of_z w64 d.inputs) ≡ d.inputs = search rules in
     let f : to_z w64 (of_z w64 d.steps) ≡ d.steps = search rules in
-    (c.before.before.natural.ensures ∙ ap natural e, c.natural2.ensures ∙ ap natural f)
+    (c.before.before.natural-inputs.ensures ∙ ap natural e, c.natural-steps.ensures ∙ ap natural f)
 
-limits : (c : tie.After-natural2) → (c.before.before.natural.result ≤ max_inputs) × (c.natural2.result ≤ max_steps)
+limits : (c : tie.After-natural-steps) → (c.before.before.natural-inputs.result ≤ max_inputs) × (c.natural-steps.result ≤ max_steps)
 limits c =
     let p = (first_read c.before.before.before.before.before).counts in
     let n = counts c in
     (omega (arith, p.inputs_in.to), omega (arith, p.steps_in.to))
 
 -- the block of the ends
-ends_are : (c : tie.After-read-ends)
-    → c.read-ends.result ≡ ends_part c.before.before.before.before.before.before.before.read-counts.result.schedule c.before.before.before.before.before.before.before.before.before.args.s.now c.before.before.before.before.before.before.before.read-counts.result.next
-ends_are c = c.read-ends.ensures ∙ rw (counts c.before).0
+ends_are : (c : tie.After-read_ends-e)
+    → c.read_ends-e.result ≡ ends_part c.before.before.before.before.before.before.before.read_counts-p.result.schedule c.before.before.before.before.before.before.before.before.before.args.s.now c.before.before.before.before.before.before.before.read_counts-p.result.next
+ends_are c = c.read_ends-e.ensures ∙ rw (counts c.before).0
 
-ends_read : (c : tie.Else2)
-    → LinesAre (suc (natural c.before.before.before.before.before.before.before.before.read-counts.result.schedule.inputs)) 3 c.before.before.before.before.before.before.before.before.read-counts.result.schedule c.before.before.before.before.before.before.before.before.before.before.args.s.now c.before.before.before.before.before.before.before.before.read-counts.result.next c.before.read-ends.result
+ends_read : (c : tie.Else-number-ne0-2)
+    → LinesAre (suc (natural c.before.before.before.before.before.before.before.before.read_counts-p.result.schedule.inputs)) 3 c.before.before.before.before.before.before.before.before.read_counts-p.result.schedule c.before.before.before.before.before.before.before.before.before.before.args.s.now c.before.before.before.before.before.before.before.before.read_counts-p.result.next c.before.read_ends-e.result
 ends_read c =
     let p = c.before.before.before.before.before.before.before.before in
     let f = first_read c.before.before.before.before.before.before.before in
-    let d = p.read-counts.result.schedule in
+    let d = p.read_counts-p.result.schedule in
     let w : Within d (3 + suc (natural d.inputs)) = record { shape = f.shape; rooms = λ m a b. rooms_counted d f.counts m a (omega arith) } in
     let e = ends_are c.before in
-    rw e (lines_sound (suc (natural d.inputs)) 3 d p.before.before.args.s.now p.read-counts.result.next (omega arith) w f.upto (ap (λ (q : Part). q.refusal.number) (sym e) ∙ c.if2.false))
+    rw e (lines_sound (suc (natural d.inputs)) 3 d p.before.before.args.s.now p.read_counts-p.result.next (omega arith) w f.upto (ap (λ (q : Part). q.refusal.number) (sym e) ∙ c.if-number-ne0-2.false))
 
 -- the lines behind the counts: refused among the ends, or what the block of the steps answered
-ends_second : (c : tie.Then2) → c.before.read-ends.result ≡ second_part c.before.before.before.before.before.before.before.before.before.before.args.s.now
+ends_second : (c : tie.Then-number-ne0-2) → c.before.read_ends-e.result ≡ second_part c.before.before.before.before.before.before.before.before.before.before.args.s.now
 ends_second c =
     let p = c.before.before.before.before.before.before.before.before in
     let e = ends_are c.before in
-    let r = p.read-counts.result in
-    e ∙ sym (ends_refused r.schedule p.before.before.args.s.now r.next (λ z. c.if2.true (ap (λ (q : Part). q.refusal.number) e ∙ z))) ∙ rw p.read-counts.ensures
+    let r = p.read_counts-p.result in
+    e ∙ sym (ends_refused r.schedule p.before.before.args.s.now r.next (λ z. c.if-number-ne0-2.true (ap (λ (q : Part). q.refusal.number) e ∙ z))) ∙ rw p.read_counts-p.ensures
 
-steps_second : (c : tie.After-read-steps) → c.read-steps.result ≡ second_part c.before.before.before.before.before.before.before.before.before.before.before.before.args.s.now
+steps_second : (c : tie.After-read_steps-q) → c.read_steps-q.result ≡ second_part c.before.before.before.before.before.before.before.before.before.before.before.before.args.s.now
 steps_second c =
     let b = c.before.before.before in
     let p = b.before.before.before.before.before.before.before in
     let n = counts b.before in
     let e = ends_are b in
-    let r = p.read-counts.result in
-    let q : c.read-steps.result ≡ steps_part r.schedule p.before.before.args.s.now r.next = c.read-steps.ensures ∙ rw (n.0, n.1, e) in
-    q ∙ sym (ends_accepted r.schedule p.before.before.args.s.now r.next (ap (λ (q : Part). q.refusal.number) (sym e) ∙ c.before.before.if2.false)) ∙ rw p.read-counts.ensures
+    let r = p.read_counts-p.result in
+    let q : c.read_steps-q.result ≡ steps_part r.schedule p.before.before.args.s.now r.next = c.read_steps-q.ensures ∙ rw (n.0, n.1, e) in
+    q ∙ sym (ends_accepted r.schedule p.before.before.args.s.now r.next (ap (λ (q : Part). q.refusal.number) (sym e) ∙ c.before.before.if-number-ne0-2.false)) ∙ rw p.read_counts-p.ensures
 
 -- both parts are read
-second_zero : (c : tie.Else3) → (second_part c.before.before.before.before.before.before.before.before.before.before.before.before.before.args.s.now).refusal.number ≡ 0
-second_zero c = ap (λ (p : Part). p.refusal.number) (sym (steps_second c.before)) ∙ c.if3.false
+second_zero : (c : tie.Else-number-ne0-3) → (second_part c.before.before.before.before.before.before.before.before.before.before.before.before.before.args.s.now).refusal.number ≡ 0
+second_zero c = ap (λ (p : Part). p.refusal.number) (sym (steps_second c.before)) ∙ c.if-number-ne0-3.false
 
-read_counts_requires : tie.Need-read-counts-requires
+read_counts_requires : tie.Need-read_counts-p-requires
 read_counts_requires c κs = search rules
 
-returns : tie.Need-returns
+returns : tie.Need-returns-then-number-ne0
 returns c =
-    let p = c.before.read-counts.ensures in
-    p ∙ sym (sheet_first c.before.before.before.args.s.now (λ z. c.if1.true (ap (λ (q : Part). q.refusal.number) p ∙ z)))
+    let p = c.before.read_counts-p.ensures in
+    p ∙ sym (sheet_first c.before.before.before.args.s.now (λ z. c.if-number-ne0.true (ap (λ (q : Part). q.refusal.number) p ∙ z)))
 
-natural_requires : tie.Need-natural-requires
+natural_requires : tie.Need-natural-inputs-requires
 natural_requires c κs = search rules
 
-natural_requires_2 : tie.Need-natural-requires-2
+natural_requires_2 : tie.Need-natural-steps-requires
 natural_requires_2 c κs = search rules
 
-read_ends_requires : tie.Need-read-ends-requires
+read_ends_requires : tie.Need-read_ends-e-requires
 read_ends_requires c κs = ((first_read c.before.before.before.before.before).upto, (counts c).0, (limits c).0)
 
-returns_2 : tie.Need-returns-2
+returns_2 : tie.Need-returns-then-number-ne0-2
 returns_2 c =
     let q = ends_second c in
     let o = c.before.before.before.before.before.before.before in
-    q ∙ sym (sheet_second o.before.before.before.args.s.now (first_zero o) (λ z. c.if2.true (ap (λ (p : Part). p.refusal.number) q ∙ z)))
+    q ∙ sym (sheet_second o.before.before.before.args.s.now (first_zero o) (λ z. c.if-number-ne0-2.true (ap (λ (p : Part). p.refusal.number) q ∙ z)))
 
-read_steps_requires : tie.Need-read-steps-requires
+read_steps_requires : tie.Need-read_steps-q-requires
 read_steps_requires c κs =
     let n = c.before.before.before in
     let r = ends_read c.before in
     (r.upto, (counts n).0 ∙ rw r.counts.inputs_same, (limits n).0, (limits n).1)
 
-returns_3 : tie.Need-returns-3
+returns_3 : tie.Need-returns-then-number-ne0-3
 returns_3 c =
     let q = steps_second c.before in
     let o = c.before.before.before.before.before.before.before.before.before.before in
-    q ∙ sym (sheet_second o.before.before.before.args.s.now (first_zero o) (λ z. c.if3.true (ap (λ (p : Part). p.refusal.number) q ∙ z)))
+    q ∙ sym (sheet_second o.before.before.before.args.s.now (first_zero o) (λ z. c.if-number-ne0-3.true (ap (λ (p : Part). p.refusal.number) q ∙ z)))
 
-add_refused : tie.Need-overflow-add-refused
+add_refused : tie.Need-overflow_add-inputs
 add_refused c =
     let l = limits c.before.before.before.before.before.before.before in
     record { fits = omega arith }
 
-add_refused_2 : tie.Need-overflow-add-refused-2
+add_refused_2 : tie.Need-overflow_add-inputs-else-q-s
 add_refused_2 c =
     let l = limits c.before.before.before.before.before.before.before in
     record { fits = omega arith }
@@ -122,7 +122,7 @@ add_refused_2 c =
 refused_requires : tie.Need-refused-requires
 refused_requires c κs = search rules
 
-returns_4 : tie.Need-returns-4
+returns_4 : tie.Need-returns-then-q-s
 returns_4 c =
     let k = c.before.before in
     let q = steps_second k.before in
@@ -131,17 +131,17 @@ returns_4 c =
     let f = first_zero o in
     let z = second_zero k in
     let w = lines_read (lines_left (first_part s).schedule) 3 (first_part s).schedule s (first_part s).next (lines_read 2 1 zero_schedule s 0 (omega arith) f).upto z in
-    q ∙ w.whole ∙ sym (sheet_ends s f z (ap (λ (p : Part). p.next) (sym q) ∙ c.if4.true))
+    q ∙ w.whole ∙ sym (sheet_ends s f z (ap (λ (p : Part). p.next) (sym q) ∙ c.if-q-s.true))
 
-returns_5 : tie.Need-returns-5
+returns_5 : tie.Need-returns-else-q-s
 returns_5 c =
     let k = c.before.before.before in
     let q = steps_second k.before in
     let n = k.before.before.before.before.before in
     let o = n.before.before.before.before.before in
     let s = o.before.before.before.args.s.now in
-    let g = sheet_goes_on s (first_zero o) (second_zero k) (λ y. c.before.if4.false (ap (λ (p : Part). p.next) q ∙ y)) in
-    let m : n.before.before.natural.result + n.natural2.result + 5 ≡ lines_left (first_part s).schedule + 3 = rw ((counts n).0, (counts n).1, o.before.read-counts.ensures) (omega arith) in
+    let g = sheet_goes_on s (first_zero o) (second_zero k) (λ y. c.before.if-q-s.false (ap (λ (p : Part). p.next) q ∙ y)) in
+    let m : n.before.before.natural-inputs.result + n.natural-steps.result + 5 ≡ lines_left (first_part s).schedule + 3 = rw ((counts n).0, (counts n).1, o.before.read_counts-p.ensures) (omega arith) in
     c.refused.ensures ∙ rw m (sym g)
 
 pub read_sheet_spec : {M : Type 1} → statement M

@@ -11,102 +11,102 @@ use Rattle.sheet.proofs.tests.fault.Statement.{statement}
 use Rattle.sheet.proofs.tests.fault.Tie as tie
 
 -- what the tests answered, of the numbers of the line
-counts_are : (c : tie.After-counts-pass)
-    → counts_pass (item c.before.before.before.before.before.before.args.t2 0) (item c.before.before.before.before.before.before.args.t2 1) (item c.before.before.before.before.before.before.args.t2 2) ≡ c.counts-pass.result
+counts_are : (c : tie.After-counts_pass)
+    → counts_pass (item c.before.before.before.before.before.before.args.t2 0) (item c.before.before.before.before.before.before.args.t2 1) (item c.before.before.before.before.before.before.args.t2 2) ≡ c.counts_pass.result
 counts_are c =
     let v = c.before.before.before.before.before.before.args.t2 in
     let e : to_z w64 (of_z w64 (item v 0)) ≡ item v 0 = search rules in
     let f : to_z w64 (of_z w64 (item v 1)) ≡ item v 1 = search rules in
     let g : to_z w64 (of_z w64 (item v 2)) ≡ item v 2 = search rules in
-    sym (rw (e, f, g) at c.counts-pass.ensures)
+    sym (rw (e, f, g) at c.counts_pass.ensures)
 
-ends_are : (c : tie.After-ends-pass) → ends_pass (item c.before.before.before.before.args.t2 0) (item c.before.before.before.before.args.t2 1) ≡ c.ends-pass.result
-ends_are c = sym (rw c.before.ends_of.ensures at c.ends-pass.ensures)
+ends_are : (c : tie.After-ends_pass) → ends_pass (item c.before.before.before.before.args.t2 0) (item c.before.before.before.before.args.t2 1) ≡ c.ends_pass.result
+ends_are c = sym (rw c.before.ends_of.ensures at c.ends_pass.ensures)
 
-abbrev earlier : tie.After-step-passes → ℕ
-earlier c = c.before.before.before.l.given.0.1.0
+abbrev earlier : tie.After-step_passes → ℕ
+earlier c = c.before.before.before.l-1.given.0.1.0
 
-step_is : (c : tie.After-step-passes)
-    → step_passes (earlier c) (item c.before.before.before.before.before.args.t2 0) (item c.before.before.before.before.before.args.t2 1) (item c.before.before.before.before.before.args.t2 2) (item c.before.before.before.before.before.args.t2 3) ≡ c.step-passes.result
-step_is c = sym (rw c.before.step_of_lem.ensures at c.step-passes.ensures)
+step_is : (c : tie.After-step_passes)
+    → step_passes (earlier c) (item c.before.before.before.before.before.args.t2 0) (item c.before.before.before.before.before.args.t2 1) (item c.before.before.before.before.before.args.t2 2) (item c.before.before.before.before.before.args.t2 3) ≡ c.step_passes.result
+step_is c = sym (rw c.before.step_of_lem.ensures at c.step_passes.ensures)
 
-enum_told : tie.Need-enum-told
+enum_told : tie.Need-enum_told-1
 enum_told c = search rules
 
-enum_told_2 : tie.Need-enum-told-2
+enum_told_2 : tie.Need-enum_told-in-CountLine
 enum_told_2 c = search rules
 
-array_copy_out_counts_pass : tie.Need-array-copy-out-counts-pass
+array_copy_out_counts_pass : tie.Need-bounds-v-0
 array_copy_out_counts_pass c = search rules
 
-array_copy_out_counts_pass_2 : tie.Need-array-copy-out-counts-pass-2
+array_copy_out_counts_pass_2 : tie.Need-bounds-v-1
 array_copy_out_counts_pass_2 c = search rules
 
-array_copy_out_counts_pass_3 : tie.Need-array-copy-out-counts-pass-3
+array_copy_out_counts_pass_3 : tie.Need-bounds-v-2
 array_copy_out_counts_pass_3 c = search rules
 
-counts_pass_requires : tie.Need-counts-pass-requires
+counts_pass_requires : tie.Need-counts_pass-requires
 counts_pass_requires c κs = search rules
 
-enum_told_3 : tie.Need-enum-told-3
+enum_told_3 : tie.Need-enum_told-in-EndNames
 enum_told_3 c = search rules
 
-enum_told_4 : tie.Need-enum-told-4
+enum_told_4 : tie.Need-enum_told-in-EndLine
 enum_told_4 c = search rules
 
-ends_of_requires : tie.Need-ends-of-requires
+ends_of_requires : tie.Need-ends_of-requires
 ends_of_requires c κs = search rules
 
-ends_pass_requires : tie.Need-ends-pass-requires
+ends_pass_requires : tie.Need-ends_pass-requires
 ends_pass_requires c κs = search rules
 
-enum_told_5 : tie.Need-enum-told-5
+enum_told_5 : tie.Need-enum_told-in-StepNames
 enum_told_5 c = search rules
 
-enum_known_l : tie.Need-enum-known-l
+enum_known_l : tie.Need-enum_known-l
 enum_known_l c = search rules
 
-step_of_requires : tie.Need-step-of-requires
+step_of_requires : tie.Need-step_of-requires
 step_of_requires c κs = search rules
 
-step_passes_requires : tie.Need-step-passes-requires
+step_passes_requires : tie.Need-step_passes-requires
 step_passes_requires c κs = search rules
 
-returns : tie.Need-returns
+returns : tie.Need-returns-in-CountNames
 unfolding Spec.fault
-returns c = rw c.enum_told.given.1
+returns c = rw c.enum_told-1.given.1
 
-returns_2 : tie.Need-returns-2
+returns_2 : tie.Need-returns-then-counts_pass
 unfolding Spec.fault
-returns_2 c = rw c.before.before.before.before.before.enum-told2.given.1 (simp (counts_are c.before ∙ c.if1.true))
+returns_2 c = rw c.before.before.before.before.before.enum_told-in-CountLine-1.given.1 (simp (counts_are c.before ∙ c.if-counts_pass.true))
 
-returns_3 : tie.Need-returns-3
+returns_3 : tie.Need-returns-else-counts_pass
 unfolding Spec.fault
-returns_3 c = rw c.before.before.before.before.before.enum-told2.given.1 (simp (counts_are c.before ∙ c.if1.false))
+returns_3 c = rw c.before.before.before.before.before.enum_told-in-CountLine-1.given.1 (simp (counts_are c.before ∙ c.if-counts_pass.false))
 
-returns_4 : tie.Need-returns-4
+returns_4 : tie.Need-returns-in-EndNames
 unfolding Spec.fault
-returns_4 c = rw c.enum-told3.given.1
+returns_4 c = rw c.enum_told-in-EndNames-1.given.1
 
-returns_5 : tie.Need-returns-5
+returns_5 : tie.Need-returns-then-ends_pass
 unfolding Spec.fault
-returns_5 c = rw c.before.before.before.enum-told4.given.1 (simp (ends_are c.before ∙ c.if2.true))
+returns_5 c = rw c.before.before.before.enum_told-in-EndLine-1.given.1 (simp (ends_are c.before ∙ c.if-ends_pass.true))
 
-returns_6 : tie.Need-returns-6
+returns_6 : tie.Need-returns-else-ends_pass
 unfolding Spec.fault
-returns_6 c = rw c.before.before.before.enum-told4.given.1 (simp (ends_are c.before ∙ c.if2.false))
+returns_6 c = rw c.before.before.before.enum_told-in-EndLine-1.given.1 (simp (ends_are c.before ∙ c.if-ends_pass.false))
 
-returns_7 : tie.Need-returns-7
+returns_7 : tie.Need-returns-in-StepNames
 unfolding Spec.fault
-returns_7 c = rw c.enum-told5.given.1
+returns_7 c = rw c.enum_told-in-StepNames-1.given.1
 
-returns_8 : tie.Need-returns-8
+returns_8 : tie.Need-returns-then-step_passes
 unfolding Spec.fault
-returns_8 c = rw c.before.before.before.before.l.given.1 (simp (step_is c.before ∙ c.if3.true))
+returns_8 c = rw c.before.before.before.before.l-1.given.1 (simp (step_is c.before ∙ c.if-step_passes.true))
 
-returns_9 : tie.Need-returns-9
+returns_9 : tie.Need-returns-else-step_passes
 unfolding Spec.fault
-returns_9 c = rw c.before.before.before.before.l.given.1 (simp (step_is c.before ∙ c.if3.false))
+returns_9 c = rw c.before.before.before.before.l-1.given.1 (simp (step_is c.before ∙ c.if-step_passes.false))
 
 pub fault_spec : {M : Type 1} → statement M
 fault_spec =

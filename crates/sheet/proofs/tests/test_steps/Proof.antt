@@ -13,68 +13,68 @@ use Rattle.sheet.proofs.Blocks.{step_fault}
 use Rattle.sheet.proofs.tests.test_steps.Statement.{statement}
 use Rattle.sheet.proofs.tests.test_steps.Tie as tie
 
-abbrev invariant_loop : tie.invariant-loop
+abbrev invariant_loop : tie.invariant-loop-i
 invariant_loop inputs steps c i₀ i = (i ≤ steps) × (test_lines steps (5 + inputs) c ≡ test_lines (steps - i) (5 + inputs + i) c)
 
-abbrev decreases_loop : tie.decreases-loop
+abbrev decreases_loop : tie.decreases-loop-i
 decreases_loop inputs steps c i₀ i = steps - i
 
 -- the fault of the next line, by what `step_passes` answered
-fault_is : (c : tie.After-step-passes invariant_loop decreases_loop)
-    → fault_at c.before.before.before.before.args.t1 (5 + c.before.before.before.before.args.inputs + c.before.before.before.loop.i) ≡ pick c.step-passes.result 0 step_wrong
+fault_is : (c : tie.After-step_passes invariant_loop decreases_loop)
+    → fault_at c.before.before.before.before.args.t1 (5 + c.before.before.before.before.args.inputs + c.before.before.before.loop-i.i) ≡ pick c.step_passes.result 0 step_wrong
 fault_is c =
     let s = c.before.before.before.before in
-    let l = c.before.before.before.loop in
-    step_fault s.args.t1 s.args.inputs l.i s.requires.0 ∙ ap (λ (b : Bool). pick b 0 step_wrong) (sym c.step-passes.ensures)
+    let l = c.before.before.before.loop-i in
+    step_fault s.args.t1 s.args.inputs l.i s.requires.0 ∙ ap (λ (b : Bool). pick b 0 step_wrong) (sym c.step_passes.ensures)
 
-loop_holds : tie.Need-loop-init invariant_loop decreases_loop
+loop_holds : tie.Need-loop-i-init invariant_loop decreases_loop
 loop_holds c =
     let z : c.args.steps - 0 ≡ c.args.steps = omega arith in
     let n : 5 + c.args.inputs + 0 ≡ 5 + c.args.inputs = omega arith in
     (omega arith, rw (z, n))
 
-mul_t : tie.Need-overflow-mul-t invariant_loop decreases_loop
+mul_t : tie.Need-offset_bounds-c-i invariant_loop decreases_loop
 mul_t c = search rules
 
-element_copy_out_t : tie.Need-element-copy-out-t invariant_loop decreases_loop
+element_copy_out_t : tie.Need-bounds-c-i invariant_loop decreases_loop
 element_copy_out_t c = search rules
 
-add_step_passes : tie.Need-overflow-add-step-passes invariant_loop decreases_loop
+add_step_passes : tie.Need-overflow_add-inputs invariant_loop decreases_loop
 add_step_passes c = search rules
 
-step_passes_requires : tie.Need-step-passes-requires invariant_loop decreases_loop
+step_passes_requires : tie.Need-step_passes-requires invariant_loop decreases_loop
 step_passes_requires c κs = search rules
 
-add_t13 : tie.Need-overflow-add-t13 invariant_loop decreases_loop
+add_t13 : tie.Need-overflow_add-result invariant_loop decreases_loop
 add_t13 c = search rules
 
-add_t14 : tie.Need-overflow-add-t14 invariant_loop decreases_loop
+add_t14 : tie.Need-overflow_add-result-then-not-step_passes invariant_loop decreases_loop
 add_t14 c = search rules
 
-returns : tie.Need-returns invariant_loop decreases_loop
+returns : tie.Need-returns-then-not-step_passes invariant_loop decreases_loop
 returns c =
     let a = c.before.before.before.before.before.args in
-    let l = c.before.before.before.before.loop in
-    let f : fault_at a.t1 (5 + a.inputs + l.i) ≡ step_wrong = rw (not-true c.before.step-passes.result c.if1.true) at (fault_is c.before) in
+    let l = c.before.before.before.before.loop-i in
+    let f : fault_at a.t1 (5 + a.inputs + l.i) ≡ step_wrong = rw (not-true c.before.step_passes.result c.if-not-step_passes.true-raw) at (fault_is c.before) in
     sym (l.invariant.1 ∙ test_stop a.t1 a.steps (5 + a.inputs) l.i 4 (omega arith) f)
 
-add_i : tie.Need-overflow-add-i invariant_loop decreases_loop
+add_i : tie.Need-overflow_add-i invariant_loop decreases_loop
 add_i c = search rules
 
-loop_less : tie.Need-loop-smaller invariant_loop decreases_loop
+loop_less : tie.Need-loop-i-smaller invariant_loop decreases_loop
 loop_less c = search rules
 
-loop_again : tie.Need-loop-preserved invariant_loop decreases_loop
+loop_again : tie.Need-loop-i-preserved invariant_loop decreases_loop
 loop_again c =
     let a = c.before.before.before.before.before.args in
-    let l = c.before.before.before.before.loop in
-    let f : fault_at a.t1 (5 + a.inputs + l.i) ≡ 0 = rw (not-false c.before.step-passes.result c.if1.false) at (fault_is c.before) in
+    let l = c.before.before.before.before.loop-i in
+    let f : fault_at a.t1 (5 + a.inputs + l.i) ≡ 0 = rw (not-false c.before.step_passes.result c.if-not-step_passes.false-raw) at (fault_is c.before) in
     (omega arith, l.invariant.1 ∙ test_more a.t1 a.steps (5 + a.inputs) l.i (omega arith) f)
 
-returns_2 : tie.Need-returns-2 invariant_loop decreases_loop
+returns_2 : tie.Need-returns invariant_loop decreases_loop
 returns_2 c =
     let a = c.before.before.args in
-    let l = c.before.loop in
+    let l = c.before.loop-i in
     sym (l.invariant.1 ∙ test_done a.t1 a.steps (5 + a.inputs) l.i (omega arith))
 
 pub test_steps_spec : {M : Type 1} → statement M

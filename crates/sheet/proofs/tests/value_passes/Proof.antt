@@ -6,21 +6,21 @@ use Rattle.sheet.specs.Tests.{between}
 use Rattle.sheet.proofs.tests.value_passes.Statement.{statement}
 use Rattle.sheet.proofs.tests.value_passes.Tie as tie
 
-within_limit_requires : tie.Need-within-limit-requires
+within_limit_requires : tie.Need-within_limit-requires
 within_limit_requires c κs = search rules
 
 between_requires : tie.Need-between-requires
 between_requires c κs = search rules
 
-returns : tie.Need-returns
+returns : tie.Need-returns-then-used
 returns c =
     let s = c.before.before in
-    rw c.before.if1.true (rw (to_z-of_z w64 s.args.z s.ranges.z) at c.within-limit.ensures)
+    rw c.before.if-used.true (rw (to_z-of_z w64 s.args.z s.ranges.z) at c.within_limit.ensures)
 
-returns_2 : tie.Need-returns-2
+returns_2 : tie.Need-returns-else-used
 returns_2 c =
     let s = c.before.before in
-    rw c.before.if1.false (rw (to_z-of_z w64 s.args.z s.ranges.z) at c.between.ensures)
+    rw c.before.if-used.false (rw (to_z-of_z w64 s.args.z s.ranges.z) at c.between.ensures)
 
 pub value_passes_spec : {M : Type 1} → statement M
 value_passes_spec = tie.close (tie.spec within_limit_requires between_requires returns returns_2)

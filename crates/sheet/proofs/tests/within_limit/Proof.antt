@@ -6,7 +6,7 @@ use Rattle.sheet.specs.Tests.{between}
 use Rattle.sheet.proofs.tests.within_limit.Statement.{statement}
 use Rattle.sheet.proofs.tests.within_limit.Tie as tie
 
-sub_between : tie.Need-overflow-sub-between
+sub_between : tie.Need-overflow_sub-between
 sub_between c = search rules
 
 between_requires : tie.Need-between-requires
