@@ -181,7 +181,7 @@ module _ (s : List ℕ) (j : ℕ) (o : InOrder (j + 2) s) where
   order_lines =
       let small = lines_left_small W order_counts in
       lines_complete j 3 W (counted (numbers W CountLine)) s (0 + length A) o.rest (omega arith) (counted_same W)
-      (λ m a b. (o.passes m (omega arith) (omega arith), ten_digits W (line_at W m) m (kind (natural W.inputs) m a) (omega (arith, o.there)) (o.passes m (omega arith) (omega arith))))
+      (λ m a b. (o.passes m (omega arith) (omega arith), ten_digits W m (line_at W m) (kind (natural W.inputs) m a) (omega (arith, o.there)) (o.passes m (omega arith) (omega arith))))
       (behind s 0 A (lines_text j 3 W ++ o.rest) order_split)
 
   -- so a refusal among the lines that follow tells a later line

@@ -9,7 +9,7 @@ use native.Mathlib.Decide.{ℕ_discrete}
 use borrow.Author.Tests.{eq-eqb, ne_eqb, eqb-true, eqb-false}
 use lib.Dec.{eqb}
 use lib.ListN.{length, drop, length-drop, length-append}
-use Rattle.sheet.specs.Causes.{refusal, line_broken}
+use Rattle.sheet.specs.Causes.{line_broken}
 use Rattle.sheet.specs.Lines.{natural, zero_schedule, line_at, lines_left, names, width, store}
 use Rattle.sheet.specs.Tests.{fault}
 use Rattle.sheet.specs.Reading.{fields_at, starts, part_read, part_refused, values_read, and_then, read_as, read_line, read_lines, read_sheet}

@@ -102,16 +102,16 @@ ten_steps r code first second value p h =
     ] in
     one (small 1 last_code code p.code_in (omega arith)) (one f (one s (one v none)))
 
-pub ten_digits : (c : Schedule) (l : Line) (n : ℕ) → Kind (natural c.inputs) n l → n < 10000000000 → fault l (numbers c l) ≡ 0 → TenDigits (numbers c l)
+pub ten_digits : (c : Schedule) (n : ℕ) (l : Line) → Kind (natural c.inputs) n l → n < 10000000000 → fault l (numbers c l) ≡ 0 → TenDigits (numbers c l)
 unfolding numbers
-ten_digits c l n (end_names e) h g = none
-ten_digits c l n (end_line a b) h g =
+ten_digits c n l (end_names e) h g = none
+ten_digits c n l (end_line a b) h g =
     let p = ends_line c (n - 4) g in
     let low : nat_abs (ends_at c (n - 4)).low < 10000000000 = omega (arith, p.low_in) in
     let high : nat_abs (ends_at c (n - 4)).high < 10000000000 = omega (arith, p.high_in) in
     one low (one high none)
-ten_digits c l n (step_names e) h g = none
-ten_digits c l n (step_line a) h g =
+ten_digits c n l (step_names e) h g = none
+ten_digits c n l (step_line a) h g =
     let i : ℕ = n - 5 - natural c.inputs in
     let t = step_at c i in
     ten_steps (n - 5) t.code t.first t.second t.value (step_line_passed c i (n - 5) g) (omega arith)

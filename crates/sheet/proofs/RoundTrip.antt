@@ -104,7 +104,7 @@ sheet_complete c z =
     let first : first_part s ≡ part_read (0 + length A) d = first_complete c s 0 B p (test_zero 2 1 c t.0 2 (omega arith) (omega arith)) split in
     let rest : drop (0 + length A) s ≡ B ++ [] = behind s 0 A B split ∙ sym (append-nil B) in
     let lines : read_lines (lines_left c) 3 d s (0 + length A) ≡ part_read (0 + length A + length B) (copied (lines_left c) 3 c d) =
-    lines_complete (lines_left c) 3 c d s (0 + length A) [] (omega arith) h (λ m a b. (f m a b, ten_digits c (line_at c m) m (kind (natural c.inputs) m a) (omega arith) (f m a b))) rest in
+    lines_complete (lines_left c) 3 c d s (0 + length A) [] (omega arith) h (λ m a b. (f m a b, ten_digits c m (line_at c m) (kind (natural c.inputs) m a) (omega arith) (f m a b))) rest in
     let second : second_part s ≡ part_read (0 + length A + length B) (trimmed c) = rw (first, (same_first h).1) (lines ∙ rw (copied_trimmed c (rooms_counted c p))) in
     let long : 0 + length A + length B ≡ length s = omega (arith, ap length split, length-append A B) in
     sheet_ends s (ap (λ (q : Part). q.refusal.number) first) (ap (λ (q : Part). q.refusal.number) second) (ap (λ (q : Part). q.next) second ∙ long) ∙ rw (second, long)

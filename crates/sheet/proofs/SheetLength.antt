@@ -84,16 +84,16 @@ extra_first : (inputs : ℕ) → extra inputs 3 ≡ 3 * (inputs + 1) + 5
 unfolding extra
 extra_first inputs = simp (le-leb 3 (inputs + 4) (omega arith)) (omega arith)
 
-line_wide : (c : Schedule) (l : Line) (n : ℕ) → Kind (natural c.inputs) n l → n < 105 → fault l (numbers c l) ≡ 0
+line_wide : (c : Schedule) (n : ℕ) (l : Line) → Kind (natural c.inputs) n l → n < 105 → fault l (numbers c l) ≡ 0
     → length (line_text l (numbers c l)) + extra (natural c.inputs) (suc n) ≤ 19 + extra (natural c.inputs) n
 unfolding line_text numbers
-line_wide c l n (end_names e) h g = omega (arith, extra_ends (natural c.inputs) n (omega arith))
-line_wide c l n (end_line a b) h g =
+line_wide c n l (end_names e) h g = omega (arith, extra_ends (natural c.inputs) n (omega arith))
+line_wide c n l (end_line a b) h g =
     let p = ends_line c (n - 4) g in
     let t = ends_at c (n - 4) in
     omega (arith, two_wide t.low t.high, limited_width t.low p.low_in, limited_width t.high p.high_in, extra_ends (natural c.inputs) n (omega arith))
-line_wide c l n (step_names e) h g = omega (arith, extra_names (natural c.inputs) n e)
-line_wide c l n (step_line a) h g =
+line_wide c n l (step_names e) h g = omega (arith, extra_names (natural c.inputs) n e)
+line_wide c n l (step_line a) h g =
     let i : ℕ = n - 5 - natural c.inputs in
     let t = step_at c i in
     omega (arith, step_wide (n - 5) t.code t.first t.second t.value (step_line_passed c i (n - 5) g) (omega arith), extra_steps (natural c.inputs) n (omega arith), extra_steps (natural c.inputs) (suc n) (omega arith))
@@ -106,7 +106,7 @@ lines_wide (suc k) n c g h f =
     rw (length-append (line_text (line_at c n) (numbers c (line_at c n))) (lines_text k (suc n) c))
     (omega (
       arith,
-      line_wide c (line_at c n) n (kind (natural c.inputs) n g) (omega arith) (f n (omega arith) (omega arith)),
+      line_wide c n (line_at c n) (kind (natural c.inputs) n g) (omega arith) (f n (omega arith) (omega arith)),
       lines_wide k (suc n) c (omega arith) (omega arith) (λ m a b. f m (omega arith) (omega arith)),
     ))
 

@@ -83,14 +83,14 @@ record Held (n : ℕ) (w c : Schedule) : Type 0 where
   ends_held : c.ends ≡ up_to max_inputs (ends_before (natural w.inputs) n) (ends_at w) zero_end
   step_held : c.step ≡ up_to max_steps (steps_before (natural w.inputs) n) (step_at w) zero_step
 
-held_more : {n : ℕ} {l : Line} (w c : Schedule) → Kind (natural w.inputs) n l → Room l → Held n w c → Held (suc n) w (store c l (padded (numbers w l)))
+held_more : (w c : Schedule) {n : ℕ} {l : Line} → Kind (natural w.inputs) n l → Room l → Held n w c → Held (suc n) w (store c l (padded (numbers w l)))
 unfolding store numbers
-held_more {n} w c (end_names e) r h =
+held_more w c {n} (end_names e) r h =
     let k = natural w.inputs in
     let a : ends_before k (suc n) ≡ ends_before k n = no_ends k (suc n) (omega arith) ∙ sym (no_ends k n (omega arith)) in
     let b : steps_before k (suc n) ≡ steps_before k n = no_steps k (suc n) (omega arith) ∙ sym (no_steps k n (omega arith)) in
     record { counts = h.counts; ends_held = rw a h.ends_held; step_held = rw b h.step_held }
-held_more {n} w c (end_line g l) r h =
+held_more w c {n} (end_line g l) r h =
     let k = natural w.inputs in
     let a : ends_before k (suc n) ≡ suc (n - 4) = some_ends k (suc n) (omega arith) (omega arith) ∙ omega arith in
     let b : steps_before k (suc n) ≡ steps_before k n = no_steps k (suc n) (omega arith) ∙ sym (no_steps k n (omega arith)) in
@@ -99,12 +99,12 @@ held_more {n} w c (end_line g l) r h =
       ends_held = rw (a, h.ends_held, some_ends k n g (omega arith)) (set_up_to max_inputs (n - 4) (ends_at w) zero_end r);
       step_held = rw b h.step_held;
     }
-held_more {n} w c (step_names e) r h =
+held_more w c {n} (step_names e) r h =
     let k = natural w.inputs in
     let a : ends_before k (suc n) ≡ ends_before k n = all_ends k (suc n) (omega arith) ∙ sym (all_ends k n (omega arith)) in
     let b : steps_before k (suc n) ≡ steps_before k n = no_steps k (suc n) (omega arith) ∙ sym (no_steps k n (omega arith)) in
     record { counts = h.counts; ends_held = rw a h.ends_held; step_held = rw b h.step_held }
-held_more {n} w c (step_line g) r h =
+held_more w c {n} (step_line g) r h =
     let k = natural w.inputs in
     let a : ends_before k (suc n) ≡ ends_before k n = all_ends k (suc n) (omega arith) ∙ sym (all_ends k n (omega arith)) in
     record {

@@ -17,6 +17,7 @@ use Rattle.sheet.proofs.test.Statement.{statement}
 use Rattle.sheet.proofs.test.Tie as tie
 
 -- what the machine reads back from the bits of the counts
+
 inputs_back : (s : tie.Start) → to_z w64 (of_z w64 s.args.schedule.inputs) ≡ s.args.schedule.inputs
 inputs_back s = search rules
 
@@ -71,7 +72,7 @@ returns_2 : tie.Need-returns-then-ends-ne0
 returns_2 c =
     let s = c.before.before.before.before.before.before.before.before.before.before.args.schedule in
     let a = ends_are c.before.before in
-    let n = ne_eqb (test_lines (natural s.inputs) 4 s).number 0 (λ z. c.if-ends-ne0.true-raw (ap (λ (r : Refusal). r.number) a ∙ z)) in
+    let n = ne_eqb (test_lines (natural s.inputs) 4 s).number 0 (λ z. c.if-ends-ne0.true (ap (λ (r : Refusal). r.number) a ∙ z)) in
     a ∙ sym (rw (passes c.before.before.before.before.before, n) at (test_blocks s))
 
 cast_test_steps : tie.Need-overflow_cast-schedule
@@ -87,7 +88,7 @@ returns_3 c =
     let e = c.before.before.before.before.before.before.before.before in
     let s = e.before.before.before.before.before.args.schedule in
     let a = ends_are c.before.before.before.before.before in
-    let n = eq-eqb (test_lines (natural s.inputs) 4 s).number 0 (ap (λ (r : Refusal). r.number) (sym a) ∙ c.before.before.before.if-ends-ne0.false-raw) in
+    let n = eq-eqb (test_lines (natural s.inputs) 4 s).number 0 (ap (λ (r : Refusal). r.number) (sym a) ∙ c.before.before.before.if-ends-ne0.false) in
     (rw (inputs_cast e, steps_cast e) at c.test_steps.ensures) ∙ sym (rw (passes e, n) at (test_blocks s))
 
 pub test_spec : {M : Type 1} → statement M

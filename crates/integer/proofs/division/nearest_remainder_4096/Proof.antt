@@ -1,6 +1,6 @@
 -- `nearest_remainder_4096` meets its contract: the low 12 bits are what the quotient rounded down leaves, 0 to 4095.
 use mathlib.Core.Path.{sym}
-use Prim.Native.Nat.{ℕ, ◌≤◌, ◌<◌}
+use Prim.Native.Nat.{ℕ, ◌<◌}
 use native.Mathlib.Omega.{arith}
 use Rattle.integer.proofs.Floor.{remainder_by, remainder_by_small}
 use Rattle.integer.proofs.Truncated.{masked_is_remainder}

@@ -47,14 +47,14 @@ loop_less c = search rules
 
 loop_again : tie.Need-loop-i-preserved invariant_loop decreases_loop
 loop_again c =
-    let l = c.before.before.before.before.before.before.loop-i in
-    let a = c.before.before.before.before.before.before.before.before.args in
-    let f = c.before.before.before.field_at in
-    let x = c.before.value-1.given in
-    let e : field_at a.s.now l.p (end_byte (a.k - (l.i + 1))) ≡ Number x.0.0 x.0.1.0 = rw (← c.before.before.before.before.end_byte.ensures) (sym f.ensures ∙ x.1) in
-    let st = field_sound a.s.now l.p (end_byte (a.k - (l.i + 1))) x.0.0 x.0.1.0 (end_byte_above_zero (a.k - (l.i + 1))) l.invariant.1 e in
-    rw (to_z-of_z w64 x.0.0 (ten_digits_fit x.0.0 st.small))
-    (omega arith, st.upto, length-set l.v l.i x.0.0 ∙ l.invariant.2, l.invariant.3 ∙ fields_more a.s.now a.k l.i l.p l.v (omega arith) x.0.0 x.0.1.0 e)
+    let l = c.before.before.before.before.loop-i in
+    let a = c.before.before.before.before.before.before.args in
+    let f = c.before.field_at in
+    let x = c.in-Number in
+    let e : field_at a.s.now l.p (end_byte (a.k - (l.i + 1))) ≡ Number x.value x.next = rw (← c.before.before.end_byte.ensures) (sym f.ensures ∙ x.is) in
+    let st = field_sound a.s.now l.p (end_byte (a.k - (l.i + 1))) x.value x.next (end_byte_above_zero (a.k - (l.i + 1))) l.invariant.1 e in
+    rw (to_z-of_z w64 x.value (ten_digits_fit x.value st.small))
+    (omega arith, st.upto, length-set l.v l.i x.value ∙ l.invariant.2, l.invariant.3 ∙ fields_more a.s.now a.k l.i l.p l.v (omega arith) x.value x.next e)
 
 enum_told : tie.Need-enum_told-1 invariant_loop decreases_loop
 enum_told c = search rules
@@ -62,10 +62,10 @@ enum_told c = search rules
 returns : tie.Need-returns-in-Broken invariant_loop decreases_loop
 unfolding fields_at
 returns c =
-    let l = c.before.before.before.before.before.loop-i in
-    let a = c.before.before.before.before.before.before.before.args in
-    let f = c.before.before.field_at in
-    let e : field_at a.s.now l.p (end_byte (a.k - (l.i + 1))) ≡ Broken = rw (← c.before.before.before.end_byte.ensures) (sym f.ensures ∙ c.enum_told-1.given.1) in
+    let l = c.before.before.before.before.loop-i in
+    let a = c.before.before.before.before.before.before.args in
+    let f = c.before.field_at in
+    let e : field_at a.s.now l.p (end_byte (a.k - (l.i + 1))) ≡ Broken = rw (← c.before.before.end_byte.ensures) (sym f.ensures ∙ c.in-Broken.is) in
     sym (l.invariant.3 ∙ fields_broken a.s.now a.k l.i l.p l.v (omega arith) e)
 
 returns_2 : tie.Need-returns invariant_loop decreases_loop

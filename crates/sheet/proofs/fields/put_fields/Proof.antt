@@ -53,7 +53,7 @@ loop_again c =
     let v = c.before.before.before.before.before.before.before.before.before.args.v.now in
     let e : to_z w64 (of_z w64 (get_or v l.i (pos 0))) ≡ get_or v l.i (pos 0) = search rules in
     let w = rw (e, c.before.before.before.end_byte.ensures) at f.ensures in
-    (omega arith, f.auto.0 ∙ l.invariant.1, rw (front_more l.i v (omega arith)) (wrote_then l.invariant.2 w))
+    (omega arith, f.auto.out ∙ l.invariant.1, rw (front_more l.i v (omega arith)) (wrote_then l.invariant.2 w))
 
 same_length : tie.Need-shape_of-out invariant_loop decreases_loop
 same_length c = search rules

@@ -9,6 +9,7 @@ use Rattle.sheet.proofs.lines.lines_left.Statement.{statement}
 use Rattle.sheet.proofs.lines.lines_left.Tie as tie
 
 -- what `natural` answered, of the counts themselves and not of what the machine reads back from their bits
+
 counts : (c : tie.After-natural-2)
     → (c.before.before.natural.result ≡ natural c.before.before.before.before.args.c.inputs) × (c.natural-2.result ≡ natural c.before.before.before.before.args.c.steps)
 counts c =

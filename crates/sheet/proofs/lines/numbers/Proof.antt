@@ -37,20 +37,20 @@ step_at_requires c κs = search rules
 
 returns : tie.Need-returns-in-CountNames
 unfolding Spec.numbers
-returns c = rw c.enum_told-1.given.1
+returns c = rw c.in-CountNames.is
 
 returns_2 : tie.Need-returns-in-CountLine
 unfolding Spec.numbers
 returns_2 c =
-    let s = c.before.before.before in
+    let s = c.before.before in
     let e : to_z w64 (of_z w64 s.args.c.inputs) ≡ s.args.c.inputs = search rules in
     let f : to_z w64 (of_z w64 s.args.c.squares) ≡ s.args.c.squares = search rules in
     let g : to_z w64 (of_z w64 s.args.c.steps) ≡ s.args.c.steps = search rules in
-    rw (c.before.enum_told-in-CountLine-1.given.1, e, f, g)
+    rw (c.before.in-CountLine.is, e, f, g)
 
 returns_3 : tie.Need-returns-in-EndNames
 unfolding Spec.numbers
-returns_3 c = rw c.enum_told-in-EndNames-1.given.1
+returns_3 c = rw c.in-EndNames.is
 
 returns_4 : tie.Need-returns-in-EndLine
 unfolding Spec.numbers
@@ -58,11 +58,11 @@ returns_4 c =
     let t = c.before.ends_at-e.result in
     let e : to_z w64 (of_z w64 t.low) ≡ t.low = search rules in
     let f : to_z w64 (of_z w64 t.high) ≡ t.high = search rules in
-    rw (e, f) (rw c.before.before.before.l-1.given.1 (ap (λ (t : End). padded (end_numbers t)) c.before.ends_at-e.ensures))
+    rw (e, f) (rw c.before.before.in-EndLine.is (ap (λ (t : End). padded (end_numbers t)) c.before.ends_at-e.ensures))
 
 returns_5 : tie.Need-returns-in-StepNames
 unfolding Spec.numbers
-returns_5 c = rw c.enum_told-in-StepNames-1.given.1
+returns_5 c = rw c.in-StepNames.is
 
 returns_6 : tie.Need-returns-in-StepLine
 unfolding Spec.numbers
@@ -72,7 +72,7 @@ returns_6 c =
     let f : to_z w64 (of_z w64 t.first) ≡ t.first = search rules in
     let g : to_z w64 (of_z w64 t.second) ≡ t.second = search rules in
     let h : to_z w64 (of_z w64 t.value) ≡ t.value = search rules in
-    rw (e, f, g, h) (rw c.before.before.before.l-in-StepLine-1.given.1 (ap (λ (t : Step). padded (step_numbers t)) c.before.step_at-t.ensures))
+    rw (e, f, g, h) (rw c.before.before.in-StepLine.is (ap (λ (t : Step). padded (step_numbers t)) c.before.step_at-t.ensures))
 
 pub numbers_spec : {M : Type 1} → statement M
 numbers_spec =

@@ -22,7 +22,7 @@ judge_requires c κs =
     let a = c.before.before.before.before.args in
     let w = rw (← c.before.before.digits-r.ensures) at (run_within 0 a.q (drop a.q a.s.now) (omega arith)) in
     let n = length-drop a.q a.s.now in
-    let g = c.before.before.before.before.well-formed in
+    let g = c.before.before.before.before.well_formed in
     (w.small, omega (arith, w.upto), omega arith)
 
 returns : tie.Need-returns

@@ -3,11 +3,11 @@ use borrow.Author.Rules.{rules, sfits_of}
 use mir.Syntax.{w64}
 use mir.ValLaws.{to_z-of_z}
 use borrow.Author.Tests.{le-leb, lt-leb, eq-eqb, ne_eqb}
-use mathlib.Core.Logic.{⊎_elim}
 use mathlib.Core.Path.{◌∙◌}
 use Rattle.sheet.specs.Number.{judged}
 use Rattle.sheet.proofs.number.judge.Statement.{statement}
 use Rattle.sheet.proofs.number.judge.Tie as tie
+use Rattle.sheet.proofs.number.judge.Lts.{then-first-eq48+else-e-q-2+else-minus, else-first-eq48}
 
 returns : tie.Need-returns-then-e-q
 unfolding judged
@@ -38,11 +38,11 @@ returns_5 : tie.Need-returns
 unfolding judged
 returns_5 c =
     let b = c.before.before.before in
-    let v = to_z-of_z w64 c.signed.result (sfits_of c.signed.type-inv) ∙ c.signed.ensures in
-    ⊎_elim
-    (λ w. rw v (simp (lt-leb _ _ b.if-e-q.false, eq-eqb _ _ c.before.before.if-last-t.false, eq-eqb _ _ w.0.taken, eq-eqb _ _ w.1.left, w.2.left)))
-    (λ w. rw v (simp (lt-leb _ _ b.if-e-q.false, eq-eqb _ _ c.before.before.if-last-t.false, ne_eqb _ _ w.left)))
-    c.before.if-first-eq48.branch
+    let v = to_z-of_z w64 c.signed.result (sfits_of c.signed.type_inv) ∙ c.signed.ensures in
+    elim c.before.if-first-eq48.branch [
+      | then-first-eq48+else-e-q-2+else-minus w ↦ rw v (simp (lt-leb _ _ b.if-e-q.false, eq-eqb _ _ c.before.before.if-last-t.false, eq-eqb _ _ w.if-first-eq48.true, eq-eqb _ _ w.if-e-q-2.false, w.if-minus.false))
+      | else-first-eq48 w ↦ rw v (simp (lt-leb _ _ b.if-e-q.false, eq-eqb _ _ c.before.before.if-last-t.false, ne_eqb _ _ w.if-first-eq48.false))
+    ]
 
 pub judge_spec : {M : Type 1} → statement M
 judge_spec =

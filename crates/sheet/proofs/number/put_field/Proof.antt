@@ -12,7 +12,8 @@ use Rattle.sheet.proofs.number.put_field.Statement.{statement}
 use Rattle.sheet.proofs.number.put_field.Tie as tie
 
 -- what `put_number` ensures, of v itself and not of what the machine reads back from its bits
-number : (c : tie.After-put_number-p) → Wrote c.before.before.before.args.out-1.now c.put_number-p.new.0 c.before.before.before.args.at c.put_number-p.result (numeral c.before.before.before.args.v)
+
+number : (c : tie.After-put_number-p) → Wrote c.before.before.before.args.out.now c.put_number-p.new.out c.before.before.before.args.at c.put_number-p.result (numeral c.before.before.before.args.v)
 number c = let s = c.before.before.before in rw (to_z-of_z w64 s.args.v s.ranges.v) at c.put_number-p.ensures
 
 put_number_requires : tie.Need-put_number-p-requires
@@ -24,7 +25,7 @@ put_byte_requires : tie.Need-put_byte-requires
 put_byte_requires c κs =
     let s = c.before.before.before.before.before.before in
     let w = number c.before.before.before in
-    omega (arith, w.ends, c.before.before.before.put_number-p.auto.0, length-append (numeral s.args.v) (s.args.t ∷ []))
+    omega (arith, w.ends, c.before.before.before.put_number-p.auto.out, length-append (numeral s.args.v) (s.args.t ∷ []))
 
 same_length : tie.Need-shape_of-out
 same_length c = search rules

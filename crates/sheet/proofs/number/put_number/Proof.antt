@@ -14,6 +14,7 @@ use Rattle.sheet.proofs.number.put_number.Statement.{statement}
 use Rattle.sheet.proofs.number.put_number.Tie as tie
 
 -- what `size` answered is the absolute value of v itself
+
 size_is : (c : tie.After-size-n) → c.size-n.result ≡ nat_abs c.before.before.args.v
 size_is c = let s = c.before.before in c.size-n.ensures ∙ ap nat_abs (to_z-of_z w64 s.args.v s.ranges.v)
 
@@ -34,7 +35,7 @@ put_digits_requires c κs =
       ap length (numeral_below s.args.v s.ranges.v c.before.before.before.before.before.if-v-lt0.true),
       ap (λ (m : ℕ). length (decimal 10 m)) (size_is c.before.before.before.before.before.before),
       f.ensures.ends,
-      f.auto.0,
+      f.auto.out,
     )
 
 put_digits_requires_2 : tie.Need-put_digits-requires-else-v-lt0

@@ -11,6 +11,7 @@ use Rattle.sheet.proofs.reader.read_counts.Statement.{statement}
 use Rattle.sheet.proofs.reader.read_counts.Tie as tie
 
 -- where the names stand the reading goes on behind them
+
 names_passed : (c : tie.Else-n-ne0) → read_lines 2 1 zero_schedule c.before.before.before.before.args.s.now 0 ≡ read_lines 1 2 zero_schedule c.before.before.before.before.args.s.now c.before.before.read_names-n.result.next
 unfolding line_of
 names_passed c = told_names _ _ _ c.before.before.read_names-n.ensures 1 1 zero_schedule refl refl c.if-n-ne0.false

@@ -16,6 +16,7 @@ use Rattle.sheet.proofs.reader.read_sheet.Statement.{statement}
 use Rattle.sheet.proofs.reader.read_sheet.Tie as tie
 
 -- the counts, which are within their limits
+
 first_zero : (c : tie.Else-number-ne0) → (first_part c.before.before.before.args.s.now).refusal.number ≡ 0
 first_zero c = ap (λ (p : Part). p.refusal.number) (sym c.before.read_counts-p.ensures) ∙ c.if-number-ne0.false
 

@@ -112,7 +112,7 @@ loop_again c =
       omega arith,
       told_upto _ _ _ t l.invariant.1 z,
       l.invariant.2,
-      l.invariant.3 ∙ block_more s.args.steps (5 + s.args.inputs) l.i l.c s.args.s.now l.next t (line_is i) (omega arith) z ∙ rw c.step_of_lem.ensures,
+      l.invariant.3 ∙ block_more s.args.steps (5 + s.args.inputs) l.i l.c s.args.s.now l.next t (line_is i) (omega arith) z ∙ rw c.step_of.ensures,
     )
 
 part_read_requires : tie.Need-part_read-requires invariant_loop decreases_loop

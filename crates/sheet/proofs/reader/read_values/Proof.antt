@@ -8,6 +8,7 @@ use Rattle.sheet.proofs.reader.read_values.Statement.{statement}
 use Rattle.sheet.proofs.reader.read_values.Tie as tie
 
 -- what `fields_at` read is the line at the position
+
 fields_told : (c : tie.After-fields_at-f)
     → values_told c.before.before.before.args.l c.fields_at-f.result ≡ told_of c.before.before.before.args.s.now c.before.before.before.args.at c.before.before.before.args.l
 fields_told c =

@@ -10,6 +10,7 @@ use Rattle.sheet.proofs.tests.counts_pass.Statement.{statement}
 use Rattle.sheet.proofs.tests.counts_pass.Tie as tie
 
 -- what `between` answered, of the counts themselves and not of what the machine reads back from their bits
+
 inputs_are : (c : tie.After-between) → between (pos 1) c.before.args.inputs (pos max_inputs) ≡ c.between.result
 inputs_are c = let s = c.before in sym (rw (to_z-of_z w64 s.args.inputs s.ranges.inputs) at c.between.ensures)
 

@@ -8,6 +8,7 @@ use Rattle.sheet.proofs.tests.ends_pass.Statement.{statement}
 use Rattle.sheet.proofs.tests.ends_pass.Tie as tie
 
 -- what `within_limit` answered, of the ends themselves
+
 low_is : (c : tie.After-within_limit) → within_limit c.before.before.args.e.low ≡ c.within_limit.result
 low_is c =
     let t = c.before.before.args.e in

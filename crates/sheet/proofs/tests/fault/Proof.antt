@@ -11,24 +11,25 @@ use Rattle.sheet.proofs.tests.fault.Statement.{statement}
 use Rattle.sheet.proofs.tests.fault.Tie as tie
 
 -- what the tests answered, of the numbers of the line
+
 counts_are : (c : tie.After-counts_pass)
-    → counts_pass (item c.before.before.before.before.before.before.args.t2 0) (item c.before.before.before.before.before.before.args.t2 1) (item c.before.before.before.before.before.before.args.t2 2) ≡ c.counts_pass.result
+    → counts_pass (item c.before.before.before.before.before.args.v 0) (item c.before.before.before.before.before.args.v 1) (item c.before.before.before.before.before.args.v 2) ≡ c.counts_pass.result
 counts_are c =
-    let v = c.before.before.before.before.before.before.args.t2 in
+    let v = c.before.before.before.before.before.args.v in
     let e : to_z w64 (of_z w64 (item v 0)) ≡ item v 0 = search rules in
     let f : to_z w64 (of_z w64 (item v 1)) ≡ item v 1 = search rules in
     let g : to_z w64 (of_z w64 (item v 2)) ≡ item v 2 = search rules in
     sym (rw (e, f, g) at c.counts_pass.ensures)
 
-ends_are : (c : tie.After-ends_pass) → ends_pass (item c.before.before.before.before.args.t2 0) (item c.before.before.before.before.args.t2 1) ≡ c.ends_pass.result
+ends_are : (c : tie.After-ends_pass) → ends_pass (item c.before.before.before.args.v 0) (item c.before.before.before.args.v 1) ≡ c.ends_pass.result
 ends_are c = sym (rw c.before.ends_of.ensures at c.ends_pass.ensures)
 
 abbrev earlier : tie.After-step_passes → ℕ
-earlier c = c.before.before.before.l-1.given.0.1.0
+earlier c = c.before.before.in-StepLine.earlier
 
 step_is : (c : tie.After-step_passes)
-    → step_passes (earlier c) (item c.before.before.before.before.before.args.t2 0) (item c.before.before.before.before.before.args.t2 1) (item c.before.before.before.before.before.args.t2 2) (item c.before.before.before.before.before.args.t2 3) ≡ c.step_passes.result
-step_is c = sym (rw c.before.step_of_lem.ensures at c.step_passes.ensures)
+    → step_passes (earlier c) (item c.before.before.before.args.v 0) (item c.before.before.before.args.v 1) (item c.before.before.before.args.v 2) (item c.before.before.before.args.v 3) ≡ c.step_passes.result
+step_is c = sym (rw c.before.step_of.ensures at c.step_passes.ensures)
 
 enum_told : tie.Need-enum_told-1
 enum_told c = search rules
@@ -74,39 +75,39 @@ step_passes_requires c κs = search rules
 
 returns : tie.Need-returns-in-CountNames
 unfolding Spec.fault
-returns c = rw c.enum_told-1.given.1
+returns c = rw c.in-CountNames.is
 
 returns_2 : tie.Need-returns-then-counts_pass
 unfolding Spec.fault
-returns_2 c = rw c.before.before.before.before.before.enum_told-in-CountLine-1.given.1 (simp (counts_are c.before ∙ c.if-counts_pass.true))
+returns_2 c = rw c.before.before.before.before.before.in-CountLine.is (simp (counts_are c.before ∙ c.if-counts_pass.true))
 
 returns_3 : tie.Need-returns-else-counts_pass
 unfolding Spec.fault
-returns_3 c = rw c.before.before.before.before.before.enum_told-in-CountLine-1.given.1 (simp (counts_are c.before ∙ c.if-counts_pass.false))
+returns_3 c = rw c.before.before.before.before.before.in-CountLine.is (simp (counts_are c.before ∙ c.if-counts_pass.false))
 
 returns_4 : tie.Need-returns-in-EndNames
 unfolding Spec.fault
-returns_4 c = rw c.enum_told-in-EndNames-1.given.1
+returns_4 c = rw c.in-EndNames.is
 
 returns_5 : tie.Need-returns-then-ends_pass
 unfolding Spec.fault
-returns_5 c = rw c.before.before.before.enum_told-in-EndLine-1.given.1 (simp (ends_are c.before ∙ c.if-ends_pass.true))
+returns_5 c = rw c.before.before.before.in-EndLine.is (simp (ends_are c.before ∙ c.if-ends_pass.true))
 
 returns_6 : tie.Need-returns-else-ends_pass
 unfolding Spec.fault
-returns_6 c = rw c.before.before.before.enum_told-in-EndLine-1.given.1 (simp (ends_are c.before ∙ c.if-ends_pass.false))
+returns_6 c = rw c.before.before.before.in-EndLine.is (simp (ends_are c.before ∙ c.if-ends_pass.false))
 
 returns_7 : tie.Need-returns-in-StepNames
 unfolding Spec.fault
-returns_7 c = rw c.enum_told-in-StepNames-1.given.1
+returns_7 c = rw c.in-StepNames.is
 
 returns_8 : tie.Need-returns-then-step_passes
 unfolding Spec.fault
-returns_8 c = rw c.before.before.before.before.l-1.given.1 (simp (step_is c.before ∙ c.if-step_passes.true))
+returns_8 c = rw c.before.before.before.in-StepLine.is (simp (step_is c.before ∙ c.if-step_passes.true))
 
 returns_9 : tie.Need-returns-else-step_passes
 unfolding Spec.fault
-returns_9 c = rw c.before.before.before.before.l-1.given.1 (simp (step_is c.before ∙ c.if-step_passes.false))
+returns_9 c = rw c.before.before.before.in-StepLine.is (simp (step_is c.before ∙ c.if-step_passes.false))
 
 pub fault_spec : {M : Type 1} → statement M
 fault_spec =

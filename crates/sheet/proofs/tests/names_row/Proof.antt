@@ -4,7 +4,6 @@ use mathlib.Core.Path.{ap, ◌∙◌}
 use Prim.Native.Nat.{ℕ}
 use mir.Syntax.{w64}
 use mir.ValLaws.{to_z-of_z}
-use Rattle.sheet.specs.Lines.{natural}
 use lib.Dec.{leb}
 use Rattle.sheet.proofs.tests.names_row.Statement.{statement}
 use Rattle.sheet.proofs.tests.names_row.Tie as tie

@@ -2,7 +2,6 @@
 use borrow.Author.Rules.{rules}
 use mir.Syntax.{w64}
 use mir.ValLaws.{to_z-of_z}
-use Rattle.sheet.specs.Tests.{between}
 use Rattle.sheet.proofs.tests.row_passes.Statement.{statement}
 use Rattle.sheet.proofs.tests.row_passes.Tie as tie
 

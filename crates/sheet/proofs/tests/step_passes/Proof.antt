@@ -11,6 +11,7 @@ use Rattle.sheet.proofs.tests.step_passes.Statement.{statement}
 use Rattle.sheet.proofs.tests.step_passes.Tie as tie
 
 -- what the tests answered, of the fields themselves
+
 code_is : (c : tie.After-between) → between (pos 1) c.before.before.args.t.code (pos last_code) ≡ c.between.result
 code_is c =
     let t = c.before.before.args.t in
@@ -55,7 +56,7 @@ returns c =
     let t = c.before.before.before.before.before.before.before.before.before.before.before.before.before.before.before.before.before.args.t in
     let e : to_z w64 (of_z w64 t.code) ≡ t.code = search rules in
     let f : to_z w64 (of_z w64 t.value) ≡ t.value = search rules in
-    rw (e, f) at c.value-Passes.ensures
+    rw (e, f) at c.value_passes.ensures
     ∙ simp (code_is c.before.before.before.before.before.before.before.before.before.before.before.before.before.before.before ∙ c.before.before.before.before.before.before.before.before.before.before.before.before.before.before.if-between.true, first_is c.before.before.before.before.before.before.before.before.before.before ∙ c.before.before.before.before.before.before.before.before.before.if-row_passes.true, second_is c.before.before.before.before.before ∙ c.before.before.before.before.if-row_passes-2.true)
 
 returns_2 : tie.Need-returns-else-row_passes-2

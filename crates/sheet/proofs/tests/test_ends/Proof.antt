@@ -21,11 +21,11 @@ decreases_loop inputs c i₀ i = inputs - i
 
 -- the fault of the next line, by what `ends_pass` answered
 fault_is : (c : tie.After-ends_pass invariant_loop decreases_loop)
-    → fault_at c.before.before.before.before.args.t1 (4 + c.before.before.before.loop-i.i) ≡ pick c.ends_pass.result 0 end_wrong
+    → fault_at c.before.before.before.before.args.c (4 + c.before.before.before.loop-i.i) ≡ pick c.ends_pass.result 0 end_wrong
 fault_is c =
     let s = c.before.before.before.before in
     let l = c.before.before.before.loop-i in
-    ends_fault s.args.t1 s.args.inputs l.i s.requires.0 (omega arith) ∙ ap (λ (b : Bool). pick b 0 end_wrong) (sym c.ends_pass.ensures)
+    ends_fault s.args.c s.args.inputs l.i s.requires.0 (omega arith) ∙ ap (λ (b : Bool). pick b 0 end_wrong) (sym c.ends_pass.ensures)
 
 loop_holds : tie.Need-loop-i-init invariant_loop decreases_loop
 loop_holds c =
@@ -48,8 +48,8 @@ returns : tie.Need-returns-then-not-ends_pass invariant_loop decreases_loop
 returns c =
     let a = c.before.before.before.before.before.args in
     let l = c.before.before.before.before.loop-i in
-    let f : fault_at a.t1 (4 + l.i) ≡ end_wrong = rw (not-true c.before.ends_pass.result c.if-not-ends_pass.true-raw) at (fault_is c.before) in
-    sym (l.invariant.1 ∙ test_stop a.t1 a.inputs 4 l.i 3 (omega arith) f)
+    let f : fault_at a.c (4 + l.i) ≡ end_wrong = rw (not-true c.before.ends_pass.result c.if-not-ends_pass.true-raw) at (fault_is c.before) in
+    sym (l.invariant.1 ∙ test_stop a.c a.inputs 4 l.i 3 (omega arith) f)
 
 add_i : tie.Need-overflow_add-i invariant_loop decreases_loop
 add_i c = search rules
@@ -61,14 +61,14 @@ loop_again : tie.Need-loop-i-preserved invariant_loop decreases_loop
 loop_again c =
     let a = c.before.before.before.before.before.args in
     let l = c.before.before.before.before.loop-i in
-    let f : fault_at a.t1 (4 + l.i) ≡ 0 = rw (not-false c.before.ends_pass.result c.if-not-ends_pass.false-raw) at (fault_is c.before) in
-    (omega arith, l.invariant.1 ∙ test_more a.t1 a.inputs 4 l.i (omega arith) f)
+    let f : fault_at a.c (4 + l.i) ≡ 0 = rw (not-false c.before.ends_pass.result c.if-not-ends_pass.false-raw) at (fault_is c.before) in
+    (omega arith, l.invariant.1 ∙ test_more a.c a.inputs 4 l.i (omega arith) f)
 
 returns_2 : tie.Need-returns invariant_loop decreases_loop
 returns_2 c =
     let a = c.before.before.args in
     let l = c.before.loop-i in
-    sym (l.invariant.1 ∙ test_done a.t1 a.inputs 4 l.i (omega arith))
+    sym (l.invariant.1 ∙ test_done a.c a.inputs 4 l.i (omega arith))
 
 pub test_ends_spec : {M : Type 1} → statement M
 test_ends_spec =

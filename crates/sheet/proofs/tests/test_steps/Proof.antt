@@ -21,11 +21,11 @@ decreases_loop inputs steps c i₀ i = steps - i
 
 -- the fault of the next line, by what `step_passes` answered
 fault_is : (c : tie.After-step_passes invariant_loop decreases_loop)
-    → fault_at c.before.before.before.before.args.t1 (5 + c.before.before.before.before.args.inputs + c.before.before.before.loop-i.i) ≡ pick c.step_passes.result 0 step_wrong
+    → fault_at c.before.before.before.before.args.c (5 + c.before.before.before.before.args.inputs + c.before.before.before.loop-i.i) ≡ pick c.step_passes.result 0 step_wrong
 fault_is c =
     let s = c.before.before.before.before in
     let l = c.before.before.before.loop-i in
-    step_fault s.args.t1 s.args.inputs l.i s.requires.0 ∙ ap (λ (b : Bool). pick b 0 step_wrong) (sym c.step_passes.ensures)
+    step_fault s.args.c s.args.inputs l.i s.requires.0 ∙ ap (λ (b : Bool). pick b 0 step_wrong) (sym c.step_passes.ensures)
 
 loop_holds : tie.Need-loop-i-init invariant_loop decreases_loop
 loop_holds c =
@@ -55,8 +55,8 @@ returns : tie.Need-returns-then-not-step_passes invariant_loop decreases_loop
 returns c =
     let a = c.before.before.before.before.before.args in
     let l = c.before.before.before.before.loop-i in
-    let f : fault_at a.t1 (5 + a.inputs + l.i) ≡ step_wrong = rw (not-true c.before.step_passes.result c.if-not-step_passes.true-raw) at (fault_is c.before) in
-    sym (l.invariant.1 ∙ test_stop a.t1 a.steps (5 + a.inputs) l.i 4 (omega arith) f)
+    let f : fault_at a.c (5 + a.inputs + l.i) ≡ step_wrong = rw (not-true c.before.step_passes.result c.if-not-step_passes.true-raw) at (fault_is c.before) in
+    sym (l.invariant.1 ∙ test_stop a.c a.steps (5 + a.inputs) l.i 4 (omega arith) f)
 
 add_i : tie.Need-overflow_add-i invariant_loop decreases_loop
 add_i c = search rules
@@ -68,14 +68,14 @@ loop_again : tie.Need-loop-i-preserved invariant_loop decreases_loop
 loop_again c =
     let a = c.before.before.before.before.before.args in
     let l = c.before.before.before.before.loop-i in
-    let f : fault_at a.t1 (5 + a.inputs + l.i) ≡ 0 = rw (not-false c.before.step_passes.result c.if-not-step_passes.false-raw) at (fault_is c.before) in
-    (omega arith, l.invariant.1 ∙ test_more a.t1 a.steps (5 + a.inputs) l.i (omega arith) f)
+    let f : fault_at a.c (5 + a.inputs + l.i) ≡ 0 = rw (not-false c.before.step_passes.result c.if-not-step_passes.false-raw) at (fault_is c.before) in
+    (omega arith, l.invariant.1 ∙ test_more a.c a.steps (5 + a.inputs) l.i (omega arith) f)
 
 returns_2 : tie.Need-returns invariant_loop decreases_loop
 returns_2 c =
     let a = c.before.before.args in
     let l = c.before.loop-i in
-    sym (l.invariant.1 ∙ test_done a.t1 a.steps (5 + a.inputs) l.i (omega arith))
+    sym (l.invariant.1 ∙ test_done a.c a.steps (5 + a.inputs) l.i (omega arith))
 
 pub test_steps_spec : {M : Type 1} → statement M
 test_steps_spec =

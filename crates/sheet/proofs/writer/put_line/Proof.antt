@@ -12,6 +12,7 @@ use Rattle.sheet.proofs.writer.put_line.Statement.{statement}
 use Rattle.sheet.proofs.writer.put_line.Tie as tie
 
 -- the names that are put are the line's
+
 names_are : (c : tie.After-put_names-arg-1)
     → line_text c.before.before.before.before.args.l (numbers c.before.before.before.before.args.c c.before.before.before.before.args.l) ≡ names c.before.before.before.before.args.l
 names_are c = text_of_names _ _ (sym c.before.before.width-k.ensures ∙ c.before.if-k-eq0.true)

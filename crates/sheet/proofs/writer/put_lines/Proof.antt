@@ -6,7 +6,7 @@ use Prim.Native.Nat.{◌≤◌, ◌-◌, ◌+◌}
 use lib.ListN.{length}
 use mir.Syntax.{w64}
 use mir.Val.{to_z, of_z}
-use Rattle.sheet.specs.Lines.{natural, line_text, numbers}
+use Rattle.sheet.specs.Lines.{line_text, numbers}
 use Rattle.sheet.specs.Text.{texts}
 use Rattle.sheet.specs.Writing.{lines_text, text_at}
 use Rattle.sheet.specs.Wrote.{Wrote}
@@ -23,12 +23,12 @@ decreases_loop out₀ c count inputs p₀ i₀ out p i = count - i
 
 -- the line that is put is the next line's text
 text_is : (c : tie.After-line_of invariant_loop decreases_loop)
-    → line_text c.Line-of.result (numbers c.before.before.before.before.before.before.before.args.c c.Line-of.result) ≡ text_at c.before.before.before.before.before.before.before.args.c (c.before.before.before.loop-i.i + 1)
+    → line_text c.line_of.result (numbers c.before.before.before.before.before.before.before.args.c c.line_of.result) ≡ text_at c.before.before.before.before.before.before.before.args.c (c.before.before.before.loop-i.i + 1)
 unfolding text_at
 text_is c =
     let s = c.before.before.before.before.before.before.before.args.c in
     let e : to_z w64 (of_z w64 s.inputs) ≡ s.inputs = search rules in
-    rw (c.Line-of.ensures, c.before.before.before.before.natural-inputs.ensures, e)
+    rw (c.line_of.ensures, c.before.before.before.before.natural-inputs.ensures, e)
 
 natural_requires : tie.Need-natural-inputs-requires invariant_loop decreases_loop
 natural_requires c κs = search rules
@@ -63,7 +63,7 @@ loop_again c =
     let f = c.before.before.put_line-p in
     let n : 1 + l.i ≡ l.i + 1 = omega arith in (
       omega arith,
-      f.auto.0 ∙ l.invariant.1,
+      f.auto.out ∙ l.invariant.1,
       rw (texts_more (text_at a.c) l.i 1, n) (wrote_then l.invariant.2 (rw (text_is c.before.before.before) at f.ensures)),
     )
 

@@ -12,29 +12,20 @@ use Rattle.sheet.proofs.writer.put_names.Tie as tie
 enum_told : tie.Need-enum_told-1
 enum_told c = search rules
 
-slice_aggregate_put_bytes : tie.Need-slice-aggregate-put-bytes
-slice_aggregate_put_bytes c = search rules
-
 put_bytes_requires : tie.Need-put_bytes-requires
-put_bytes_requires c κs = omega (arith, ap (λ (l : Line). length (names l)) c.before.before.enum_told-1.given.1)
+put_bytes_requires c κs = omega (arith, ap (λ (l : Line). length (names l)) c.before.before.before.in-CountNames.is)
 
 enum_told_2 : tie.Need-enum_told-in-EndNames
 enum_told_2 c = search rules
 
-slice_aggregate_put_bytes_2 : tie.Need-slice-aggregate-put-bytes-2
-slice_aggregate_put_bytes_2 c = search rules
-
 put_bytes_requires_2 : tie.Need-put_bytes-requires-in-EndNames
-put_bytes_requires_2 c κs = omega (arith, ap (λ (l : Line). length (names l)) c.before.before.enum_told-in-EndNames-1.given.1)
+put_bytes_requires_2 c κs = omega (arith, ap (λ (l : Line). length (names l)) c.before.before.before.in-EndNames.is)
 
 enum_told_3 : tie.Need-enum_told-in-StepNames
 enum_told_3 c = search rules
 
-slice_aggregate_put_bytes_3 : tie.Need-slice-aggregate-put-bytes-3
-slice_aggregate_put_bytes_3 c = search rules
-
 put_bytes_requires_3 : tie.Need-put_bytes-requires-in-StepNames
-put_bytes_requires_3 c κs = omega (arith, ap (λ (l : Line). length (names l)) c.before.before.enum_told-in-StepNames-1.given.1)
+put_bytes_requires_3 c κs = omega (arith, ap (λ (l : Line). length (names l)) c.before.before.before.in-StepNames.is)
 
 enum_told_4 : tie.Need-enum_told-in-CountLine
 enum_told_4 c = search rules
@@ -49,41 +40,38 @@ same_length : tie.Need-shape_of-out-in-CountNames
 same_length c = search rules
 
 returns : tie.Need-returns-in-CountNames
-returns c = rw c.before.before.before.before.before.enum_told-1.given.1 c.before.before.put_bytes.ensures
+returns c = rw c.before.before.before.before.before.before.in-CountNames.is c.before.before.put_bytes.ensures
 
 same_length_2 : tie.Need-shape_of-out-in-EndNames
 same_length_2 c = search rules
 
 returns_2 : tie.Need-returns-in-EndNames
-returns_2 c = rw c.before.before.before.before.before.enum_told-in-EndNames-1.given.1 c.before.before.put_bytes-in-EndNames.ensures
+returns_2 c = rw c.before.before.before.before.before.before.in-EndNames.is c.before.before.put_bytes-in-EndNames.ensures
 
 same_length_3 : tie.Need-shape_of-out-in-StepNames
 same_length_3 c = search rules
 
 returns_3 : tie.Need-returns-in-StepNames
-returns_3 c = rw c.before.before.before.before.before.enum_told-in-StepNames-1.given.1 c.before.before.put_bytes-in-StepNames.ensures
+returns_3 c = rw c.before.before.before.before.before.before.in-StepNames.is c.before.before.put_bytes-in-StepNames.ensures
 
 returns_4 : tie.Need-returns-in-CountLine
-returns_4 c = rw c.enum_told-in-CountLine-1.given.1 (wrote_none _ _)
+returns_4 c = rw c.in-CountLine.is (wrote_none _ _)
 
 returns_5 : tie.Need-returns-in-EndLine
-returns_5 c = rw c.enum_told-in-EndLine-1.given.1 (wrote_none _ _)
+returns_5 c = rw c.in-EndLine.is (wrote_none _ _)
 
 returns_6 : tie.Need-returns-in-StepLine
-returns_6 c = rw c.enum_told-in-StepLine-1.given.1 (wrote_none _ _)
+returns_6 c = rw c.in-StepLine.is (wrote_none _ _)
 
 pub put_names_spec : {M : Type 1} → statement M
 put_names_spec =
     tie.close
     (tie.spec
     enum_told
-    slice_aggregate_put_bytes
     put_bytes_requires
     enum_told_2
-    slice_aggregate_put_bytes_2
     put_bytes_requires_2
     enum_told_3
-    slice_aggregate_put_bytes_3
     put_bytes_requires_3
     enum_told_4
     enum_told_5
