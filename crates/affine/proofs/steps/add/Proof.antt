@@ -27,48 +27,48 @@ sum_fits c =
     fits_of_nat_abs (c.args.t1.centre +ℤ c.args.t2.centre)
     (omega (arith, nat_abs_add c.args.t1.centre c.args.t2.centre, centre_within c.args.t1 c.requires.0, centre_within c.args.t2 c.requires.1))
 
-first_long : (c : tie.Start) → (length c.args.t1.linear ≡ symbols) × (length c.args.t1.pair ≡ pairs)
+first_long : (c : tie.Start) → (length c.args.t1.linear-1 ≡ symbols) × (length c.args.t1.pair-1 ≡ pairs)
 first_long c = search rules
 
-second_long : (c : tie.Start) → (length c.args.t2.linear ≡ symbols) × (length c.args.t2.pair ≡ pairs)
+second_long : (c : tie.Start) → (length c.args.t2.linear-1 ≡ symbols) × (length c.args.t2.pair-1 ≡ pairs)
 second_long c = search rules
 
-slice_aggregate_put_sums : tie.Need-slice-aggregate-put-sums
+slice_aggregate_put_sums : tie.Need-slice_bounds-put_sums-end
 slice_aggregate_put_sums c = search rules
 
-put_sums_requires : tie.Need-put-sums-requires
+put_sums_requires : tie.Need-put_sums-requires
 put_sums_requires c κs =
     let s = c.before.before.before.before.before.before.before in
     (((first_long s).0, (second_long s).0), (linear_within s.args.t1 s.requires.0, linear_within s.args.t2 s.requires.1))
 
-slice_aggregate_put_sums_2 : tie.Need-slice-aggregate-put-sums-2
+slice_aggregate_put_sums_2 : tie.Need-slice_bounds-put_sums-end-4
 slice_aggregate_put_sums_2 c = search rules
 
-put_sums_requires_2 : tie.Need-put-sums-requires-2
+put_sums_requires_2 : tie.Need-put_sums-requires-2
 put_sums_requires_2 c κs =
     let s = c.before.before.before.before.before.before.before.before.before.before.before.before.before.before.before.before in
     (((first_long s).1, (second_long s).1), (pair_within s.args.t1 s.requires.0, pair_within s.args.t2 s.requires.1))
 
 -- the row of the sums
-abbrev after_linear : tie.After-put-sums2 → tie.After-put-sums
+abbrev after_linear : tie.After-put_sums-2 → tie.After-put_sums
 after_linear c = c.before.before.before.before.before.before.before.before.before
 
-abbrev start : tie.After-put-sums2 → tie.Start
+abbrev start : tie.After-put_sums-2 → tie.Start
 start c = (after_linear c).before.before.before.before.before.before.before.before
 
-add_t23 : tie.Need-overflow-add-t23
+add_t23 : tie.Need-overflow_add-sum
 add_t23 c = let s = start c.before.before.before in operation_fits ◌+ℤ◌ (first_fits s) (second_fits s) (sum_fits s)
 
-row_is : (c : tie.After-put-sums2)
+row_is : (c : tie.After-put_sums-2)
     → let g = (start c).args in
-    row_of_parts (to_z w64 (of_z w64 (to_z w64 (of_z w64 g.t1.centre) +ℤ to_z w64 (of_z w64 g.t2.centre)))) (after_linear c).put-sums.new.0 c.put-sums2.new.0
+    row_of_parts (to_z w64 (of_z w64 (to_z w64 (of_z w64 g.t1.centre) +ℤ to_z w64 (of_z w64 g.t2.centre)))) (after_linear c).put_sums.new.0 c.put_sums-2.new.0
     ≡ add_rows g.t1 g.t2
 row_is c =
     let s = start c in
     λ i. record {
       centre = operation_gives ◌+ℤ◌ (first_fits s) (second_fits s) (sum_fits s) i;
-      linear = (after_linear c).put-sums.ensures i;
-      pair = c.put-sums2.ensures i;
+      linear = (after_linear c).put_sums.ensures i;
+      pair = c.put_sums-2.ensures i;
     }
 
 check_requires : tie.Need-check-requires

@@ -17,14 +17,14 @@ centre_fits c = search rules
 pair_long : (c : tie.Start) → length c.args.t1.pair ≡ pairs
 pair_long c = search rules
 
-measure_requires : tie.Need-measure-requires
+measure_requires : tie.Need-measure-measured-requires
 measure_requires c κs = let s = c.before.before.before.before in (pair_long s, rw (to_z-of_z w64 _ (centre_fits s)) s.requires)
 
-abbrev start : tie.After-measure → tie.Start
+abbrev start : tie.After-measure-measured → tie.Start
 start c = c.before.before.before.before.before
 
-told : (c : tie.After-measure) → c.measure.result ≡ measured (start c).args.t1
-told c = rw (to_z-of_z w64 _ (centre_fits (start c))) at c.measure.ensures
+told : (c : tie.After-measure-measured) → c.measure-measured.result ≡ measured (start c).args.t1
+told c = rw (to_z-of_z w64 _ (centre_fits (start c))) at c.measure-measured.ensures
 
 answer_requires : tie.Need-answer-requires
 answer_requires c κs = radius_measured (start c.before).args.t1 (told c.before)
