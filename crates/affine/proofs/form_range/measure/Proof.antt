@@ -62,7 +62,7 @@ range_around_requires c κs =
     let a = c.before in
     let s = start a in
     let r = total_is a.before in
-    (s.pre.0, omega (arith, r), rw (to_z-of_z w64 _ s.fits.c) (omega (arith, within c, r, span_is_sum (row s))))
+    (s.requires.0, omega (arith, r), rw (to_z-of_z w64 _ s.ranges.c) (omega (arith, within c, r, span_is_sum (row s))))
 
 -- what the coefficients reach on each side, and the range
 linear_left : (c : tie.After-absolutes-2) → total c - sum_abs (summed c).args.p.now ≡ sum_abs (summed c).args.l.now

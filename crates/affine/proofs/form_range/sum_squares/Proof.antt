@@ -63,21 +63,21 @@ added c = c.square_above-above.ensures ∙ ap (square_reach true) (v_is c)
 turned : (c : tie.After-square_above-above invariant_loop decreases_loop)
     → let o = (turn c).loop-left in
     Balanced (turn c).before.args.p.now (o.above + c.square_above-above.result) (to_z w64 o.sum-bits +ℤ v c) (o.k + o.left) (o.left - 1)
-turned c = let o = (turn c).loop-left in balanced_more o.left o.inv c.before.before.loop-left-test.true (added c)
+turned c = let o = (turn c).loop-left in balanced_more o.left o.invariant c.before.before.loop-left-test.true (added c)
 
 add_above : tie.Need-overflow_add-above invariant_loop decreases_loop
-add_above c = let s = (turn c).before in omega (arith, passed_within (turned c).over s.pre.0, s.pre.1)
+add_above c = let s = (turn c).before in omega (arith, passed_within (turned c).over s.requires.0, s.requires.1)
 
 sum_fits : (c : tie.After-square_above-above invariant_loop decreases_loop) → SFits w64 (to_z w64 (turn c).loop-left.sum-bits +ℤ v c)
 sum_fits c =
     let s = (turn c).before in
-    fits_within _ (span_limit + span_limit) (omega (arith, balanced_within (turned c) s.pre.0, s.pre.1)) (omega arith)
+    fits_within _ (span_limit + span_limit) (omega (arith, balanced_within (turned c) s.requires.0, s.requires.1)) (omega arith)
 
 add_sum : tie.Need-overflow_add-sum invariant_loop decreases_loop
 add_sum c = rw (v_is c) (sum_fits c)
 
 add_k : tie.Need-overflow_add-k invariant_loop decreases_loop
-add_k c = let o = (turn c).loop-left in omega (arith, passed_next o.left o.inv.over)
+add_k c = let o = (turn c).loop-left in omega (arith, passed_next o.left o.invariant.over)
 
 sub_left : tie.Need-overflow_sub-left invariant_loop decreases_loop
 sub_left c = search rules

@@ -51,14 +51,14 @@ kept_is c =
     let z : (start c).args.squares - 0 ≡ (start c).args.squares = omega arith in
     ap₂ ◌*◌ (rw z at c.before.before.absolutes.ensures) (rw z at c.absolutes-2.ensures)
 
-all_within : (c : tie.Start) → c.args.a-radius * c.args.b-radius ≤ span_limit * span_limit
+all_within : (c : tie.Start) → c.args.a_radius * c.args.b_radius ≤ span_limit * span_limit
 all_within c = mul-le-mul c.requires.1.0.2 c.requires.1.1.2
 
-kept_within : (c : tie.Start) → kept c ≤ c.args.a-radius * c.args.b-radius
+kept_within : (c : tie.Start) → kept c ≤ c.args.a_radius * c.args.b_radius
 kept_within c =
-    let a : sum_abs (take c.args.squares c.args.a.now) ≤ c.args.a-radius =
+    let a : sum_abs (take c.args.squares c.args.a.now) ≤ c.args.a_radius =
     omega (arith, sum_abs_take c.args.squares c.args.a.now, c.requires.1.0.1) in
-    let b : sum_abs (take c.args.squares c.args.b.now) ≤ c.args.b-radius =
+    let b : sum_abs (take c.args.squares c.args.b.now) ≤ c.args.b_radius =
     omega (arith, sum_abs_take c.args.squares c.args.b.now, c.requires.1.1.1) in
     mul-le-mul a b
 
@@ -72,7 +72,7 @@ sub_result : tie.Need-overflow_sub-result
 sub_result c = rw (kept_is c) (kept_within (start c))
 
 returns : tie.Need-returns
-returns c = let g = (start c).args in ap (λ n. g.a-radius * g.b-radius - n) (kept_is c)
+returns c = let g = (start c).args in ap (λ n. g.a_radius * g.b_radius - n) (kept_is c)
 
 pub dropped_part_spec : {M : Type 1} → statement M
 dropped_part_spec =

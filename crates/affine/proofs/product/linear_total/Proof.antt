@@ -53,7 +53,7 @@ bi_is c = back c.bi-1.given
 crosswise_total_requires : tie.Need-crosswise_total-requires
 crosswise_total_requires c κs =
     let s = start c in
-    let h = s.pre.1 in
+    let h = s.requires.1 in
     rw (c_is s, d_is s, ai_is c, bi_is c)
     (centre_within (x s) h.0, linear_at_within (y s) h.1 s.args.i, centre_within (y s) h.1, linear_at_within (x s) h.0 s.args.i)
 
@@ -61,7 +61,7 @@ returns : tie.Need-returns
 returns c =
     let r = c.before in
     let s = start r in
-    back c.crosswise_total.type-inv ∙ (rw (c_is s, d_is s, ai_is r, bi_is r) at c.crosswise_total.ensures)
+    back c.crosswise_total.type_inv ∙ (rw (c_is s, d_is s, ai_is r, bi_is r) at c.crosswise_total.ensures)
 
 pub linear_total_spec : {M : Type 1} → statement M
 linear_total_spec =

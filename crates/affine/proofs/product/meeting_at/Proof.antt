@@ -72,7 +72,7 @@ meeting_products_requires c κs =
     rw (ai_is c, bj_is c, aj_is c, bi_is c) (h.0 (i c), h.1 (j c), h.0 (j c), h.1 (i c))
 
 returns : tie.Need-returns
-returns c = let r = c.before in back c.meeting_products.type-inv ∙ (rw (ai_is r, bj_is r, aj_is r, bi_is r) at c.meeting_products.ensures)
+returns c = let r = c.before in back c.meeting_products.type_inv ∙ (rw (ai_is r, bj_is r, aj_is r, bi_is r) at c.meeting_products.ensures)
 
 pub meeting_at_spec : {M : Type 1} → statement M
 meeting_at_spec =

@@ -60,7 +60,7 @@ qk_is c = back c.qk-1.given
 crosswise_total_requires : tie.Need-crosswise_total-requires
 crosswise_total_requires c κs =
     let s = start c in
-    let h = s.pre.1 in
+    let h = s.requires.1 in
     rw (c_is s, d_is s, pk_is c, qk_is c)
     (centre_within (x s) h.0, pair_at_within (y s) h.1 s.args.k, centre_within (y s) h.1, pair_at_within (x s) h.0 s.args.k)
 
@@ -74,7 +74,7 @@ j_small c = omega (arith, c.requires.0.2, second_below c.args.k)
 meeting_at_requires : tie.Need-meeting_at-requires
 meeting_at_requires c κs =
     let s = start c.before in
-    let h = s.pre.1 in
+    let h = s.requires.1 in
     ((i_small s, j_small s), (linear_at_within (x s) h.0, linear_at_within (y s) h.1))
 
 -- ---- the two parts, and their sum
@@ -102,8 +102,8 @@ sum_is c =
     let r = c.before.before in
     let s = start r in
     ap₂ ◌+ℤ◌
-    (back c.before.crosswise_total.type-inv ∙ (rw (c_is s, d_is s, pk_is r, qk_is r) at c.before.crosswise_total.ensures))
-    (back c.meeting_at.type-inv ∙ c.meeting_at.ensures)
+    (back c.before.crosswise_total.type_inv ∙ (rw (c_is s, d_is s, pk_is r, qk_is r) at c.before.crosswise_total.ensures))
+    (back c.meeting_at.type_inv ∙ c.meeting_at.ensures)
 
 add_result : tie.Need-overflow_add-result
 add_result c = rw (sum_is c) (sum_fits (start c.before.before))
@@ -111,7 +111,7 @@ add_result c = rw (sum_is c) (sum_fits (start c.before.before))
 returns : tie.Need-returns
 returns c =
     let s = start c.before.before in
-    rw (s.pre.0.1, s.pre.0.2) (back_as (sum_is c) (sum_fits s))
+    rw (s.requires.0.1, s.requires.0.2) (back_as (sum_is c) (sum_fits s))
 
 pub pair_total_spec : {M : Type 1} → statement M
 pair_total_spec =

@@ -73,12 +73,12 @@ column_small c = (start c).requires.0.0
 pair_total_requires : tie.Need-pair_total-t-requires invariant_loop decreases_loop
 pair_total_requires c κs =
     let s = start c in
-    (at_symbols (column_small c) c.loop-i-test.true (place c), (read_x_within (lent s) s.pre.0.1, read_y_within (lent s) s.pre.0.2))
+    (at_symbols (column_small c) c.loop-i-test.true (place c), (read_x_within (lent s) s.requires.0.1, read_y_within (lent s) s.requires.0.2))
 
 total_is : (c : tie.After-pair_total-t invariant_loop decreases_loop)
     → let t = c.before in
     to_z w64 (of_z w64 c.pair_total-t.result) ≡ pair_total (read_x (lent (start t))) (read_y (lent (start t))) t.before.loop-i.k
-total_is c = back c.pair_total-t.type-inv ∙ c.pair_total-t.ensures
+total_is c = back c.pair_total-t.type_inv ∙ c.pair_total-t.ensures
 
 put_quotient_requires : tie.Need-put_quotient-sum-requires invariant_loop decreases_loop
 put_quotient_requires c κs =
@@ -103,8 +103,8 @@ sum_is : (c : Once)
     ≡ sum_abs (of product_rounding.remainder (read_x (lent (start t))) (read_y (lent (start t))) (start t).args.j (t.before.loop-i.i + 1))
 sum_is c =
     let t = turn c in
-    ap₂ ◌+◌ t.before.loop-i.inv.2 (rw (total_is (totalled c)) at c.before.put_quotient-sum.ensures.1)
-    ∙ sym (column_sum_more _ (column_small t) t.loop-i-test.taken (place t))
+    ap₂ ◌+◌ t.before.loop-i.invariant.2 (rw (total_is (totalled c)) at c.before.put_quotient-sum.ensures.1)
+    ∙ sym (column_sum_more _ (column_small t) t.loop-i-test.true (place t))
 
 all_small : (c : Start) (i : ℕ) → i ≤ suc c.args.j → sum_abs (of product_rounding.remainder (read_x (lent c)) (read_y (lent c)) c.args.j i) ≤ unit * pairs
 all_small c i h =
@@ -114,19 +114,19 @@ all_small c i h =
     omega (arith, bounded, all, remainders_within (pair_totals (suc j) (given_x (lent c)) (given_y (lent c))), length_pair_totals (suc j) (given_x (lent c)) (given_y (lent c)))
 
 add_sum : tie.Need-overflow_add-sum invariant_loop decreases_loop
-add_sum c = let t = turn c in omega (arith, sum_is c, all_small (start t) (t.before.loop-i.i + 1) (omega (arith, t.loop-i-test.taken)))
+add_sum c = let t = turn c in omega (arith, sum_is c, all_small (start t) (t.before.loop-i.i + 1) (omega (arith, t.loop-i-test.true)))
 
 sub_k : tie.Need-overflow_sub-k invariant_loop decreases_loop
 sub_k c = search rules
 
 sub_k_2 : tie.Need-overflow_sub-k-in-loop-i invariant_loop decreases_loop
-sub_k_2 c = let t = turn c in omega (arith, column_small t, t.loop-i-test.taken)
+sub_k_2 c = let t = turn c in omega (arith, column_small t, t.loop-i-test.true)
 
 add_k : tie.Need-overflow_add-k invariant_loop decreases_loop
-add_k c = let t = turn c in omega (arith, (at_symbols (column_small t) t.loop-i-test.taken (place t)).0)
+add_k c = let t = turn c in omega (arith, (at_symbols (column_small t) t.loop-i-test.true (place t)).0)
 
 add_i : tie.Need-overflow_add-i invariant_loop decreases_loop
-add_i c = let t = turn c in omega (arith, column_small t, t.loop-i-test.taken)
+add_i c = let t = turn c in omega (arith, column_small t, t.loop-i-test.true)
 
 loop_less : tie.Need-loop-i-smaller invariant_loop decreases_loop
 loop_less c = search rules
@@ -134,10 +134,10 @@ loop_less c = search rules
 loop_again : tie.Need-loop-i-preserved invariant_loop decreases_loop
 loop_again c =
     let t = turn c in (
-      at_next (column_small t) t.loop-i-test.taken (place t),
+      at_next (column_small t) t.loop-i-test.true (place t),
       c.before.put_quotient-sum.ensures.0
-          ∙ ap₂ (λ l v. set l t.before.loop-i.k (product_rounding.quotient v)) t.before.loop-i.inv.1 (total_is (totalled c))
-          ∙ column_more _ (column_small t) t.loop-i-test.taken (place t),
+          ∙ ap₂ (λ l v. set l t.before.loop-i.k (product_rounding.quotient v)) t.before.loop-i.invariant.1 (total_is (totalled c))
+          ∙ column_more _ (column_small t) t.loop-i-test.true (place t),
       sum_is c,
     )
 

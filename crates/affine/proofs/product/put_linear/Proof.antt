@@ -53,12 +53,12 @@ inside : (c : tie.In-loop-i invariant_loop decreases_loop) → index c < symbols
 inside c = omega (arith, c.loop-i-test.true, (start c).requires.0.0)
 
 linear_total_requires : tie.Need-linear_total-t-requires invariant_loop decreases_loop
-linear_total_requires c κs = let s = start c in (inside c, (read_x_within (lent s) s.pre.1.0, read_y_within (lent s) s.pre.1.1))
+linear_total_requires c κs = let s = start c in (inside c, (read_x_within (lent s) s.requires.1.0, read_y_within (lent s) s.requires.1.1))
 
 total_is : (c : tie.After-linear_total-t invariant_loop decreases_loop)
     → let t = c.before in
     to_z w64 (of_z w64 c.linear_total-t.result) ≡ linear_total (read_x (lent (start t))) (read_y (lent (start t))) (index t)
-total_is c = back c.linear_total-t.type-inv ∙ c.linear_total-t.ensures
+total_is c = back c.linear_total-t.type_inv ∙ c.linear_total-t.ensures
 
 put_quotient_requires : tie.Need-put_quotient-remainders-requires invariant_loop decreases_loop
 put_quotient_requires c κs =
@@ -82,7 +82,7 @@ remainder_is : (c : Once)
     ≡ sum_abs (of product_rounding.remainder (read_x (lent (start t))) (read_y (lent (start t))) (index t + 1))
 remainder_is c =
     let t = within c in
-    ap₂ ◌+◌ t.before.loop-i.inv.2 ((rw (total_is (totalled c)) at c.before.put_quotient-remainders.ensures.1))
+    ap₂ ◌+◌ t.before.loop-i.invariant.2 ((rw (total_is (totalled c)) at c.before.put_quotient-remainders.ensures.1))
     ∙ sym (front_sum_more symbols _ (index t) (inside t))
 
 all_small : (c : tie.Start invariant_loop decreases_loop) (i : ℕ) → sum_abs (of product_rounding.remainder (read_x (lent c)) (read_y (lent c)) i) ≤ unit * symbols
@@ -103,9 +103,9 @@ loop_less c = search rules
 loop_again : tie.Need-loop-i-preserved invariant_loop decreases_loop
 loop_again c =
     let t = within c in (
-      omega (arith, t.loop-i-test.taken),
+      omega (arith, t.loop-i-test.true),
       c.before.put_quotient-remainders.ensures.0
-          ∙ ap₂ (λ l v. set l (index t) (product_rounding.quotient v)) t.before.loop-i.inv.1 (total_is (totalled c))
+          ∙ ap₂ (λ l v. set l (index t) (product_rounding.quotient v)) t.before.loop-i.invariant.1 (total_is (totalled c))
           ∙ front_more symbols _ (index t) (inside t),
       remainder_is c,
     )

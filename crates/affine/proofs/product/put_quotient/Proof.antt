@@ -43,7 +43,7 @@ returns_2 : tie.Need-returns
 returns_2 c =
     let q = c.before in
     let s = q.before.before in (
-      ap (set s.args.out.now s.args.i) (back q.nearest_quotient_4096.type-inv ∙ (rw (total_is s) at q.nearest_quotient_4096.ensures)),
+      ap (set s.args.out.now s.args.i) (back q.nearest_quotient_4096.type_inv ∙ (rw (total_is s) at q.nearest_quotient_4096.ensures)),
       rw (total_is s) at c.nearest_remainder_4096.ensures,
     )
 

@@ -42,7 +42,7 @@ floor_quotient_requires c κs =
 returns_2 : tie.Need-returns
 returns_2 c =
     let s = c.before.before in
-    back c.floor_quotient.type-inv ∙ (rw (turned_is s, to_z-of_z w64 _ s.ranges.c) at c.floor_quotient.ensures)
+    back c.floor_quotient.type_inv ∙ (rw (turned_is s, to_z-of_z w64 _ s.ranges.c) at c.floor_quotient.ensures)
 
 pub candidate_bend_spec : {M : Type 1} → statement M
 candidate_bend_spec = tie.close (tie.spec returns sub_floor_quotient floor_quotient_requires returns_2)

@@ -38,9 +38,9 @@ sum_is : (c : tie.After-candidate_bend)
 sum_is c =
     let s = c.before.before in
     ap₂ ◌+ℤ◌
-    (back c.before.candidate_slope.type-inv
+    (back c.before.candidate_slope.type_inv
     ∙ (rw (to_z-of_z w64 _ s.ranges.c, to_z-of_z w64 _ s.ranges.p) at c.before.candidate_slope.ensures))
-    (back c.candidate_bend.type-inv ∙ (rw (to_z-of_z w64 _ s.ranges.c, to_z-of_z w64 _ s.ranges.met) at c.candidate_bend.ensures))
+    (back c.candidate_bend.type_inv ∙ (rw (to_z-of_z w64 _ s.ranges.c, to_z-of_z w64 _ s.ranges.met) at c.candidate_bend.ensures))
 
 add_result : tie.Need-overflow_add-result
 add_result c = rw (sum_is c) (sum_fits c.before.before)

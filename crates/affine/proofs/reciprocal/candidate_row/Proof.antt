@@ -19,7 +19,7 @@ use Rattle.affine.proofs.reciprocal.candidate_row.Tie as tie
 
 -- ---- the operand
 abbrev x : tie.After-struct_told-1 → Row
-x c = c.before.args.t1
+x c = c.before.args.x
 
 c_is : (c : tie.After-struct_told-1) → to_z w64 (of_z w64 (x c).centre) ≡ (x c).centre
 c_is c = search rules
@@ -34,7 +34,7 @@ slice_aggregate_put_slopes c = search rules
 put_slopes_requires : tie.Need-put_slopes-requires
 put_slopes_requires c κs =
     let o = told c in
-    let p = o.before.pre in
+    let p = o.before.requires in
     rw (c_is o) ((p.0.1, refl, p.0.2), (centre_within (x o) p.1.0, p.1.1, linear_within (x o) p.1.0))
 
 linear_is : (c : tie.After-put_slopes) → c.put_slopes.new.0 ≡ candidate_linear (x (told c.before))
@@ -51,7 +51,7 @@ slice_aggregate_put_curves c = search rules
 put_curves_requires : tie.Need-put_curves-requires
 put_curves_requires c κs =
     let o = told (slopes c).before in
-    let p = o.before.pre in
+    let p = o.before.requires in
     rw (c_is o) ((p.0.0, p.1.0, p.1.1, p.1.2), (linear_is (slopes c), refl))
 
 pair_is : (c : tie.After-put_curves)
@@ -63,14 +63,14 @@ floor_quotient_requires : tie.Need-floor_quotient-requires
 floor_quotient_requires c κs =
     let o = told (slopes c.before.before).before in
     rw (c_is o) (
-      not_zero (x o).centre o.before.pre.1.1,
+      not_zero (x o).centre o.before.requires.1.1,
       fits_within (floor_quotient (pos unit_squared) (x o).centre) unit_squared (nat_abs_quotient (pos unit_squared) (x o).centre) (omega arith),
     )
 
 returns : tie.Need-returns
 returns c =
     let curves = c.before.before in
-    let centre = back c.floor_quotient.type-inv ∙ (rw (c_is (told (slopes curves.before).before)) at c.floor_quotient.ensures) in
+    let centre = back c.floor_quotient.type_inv ∙ (rw (c_is (told (slopes curves.before).before)) at c.floor_quotient.ensures) in
     λ i. record { centre = centre i; linear = linear_is (slopes curves.before) i; pair = pair_is curves i }
 
 pub candidate_row_spec : {M : Type 1} → statement M

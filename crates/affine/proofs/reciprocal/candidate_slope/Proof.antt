@@ -48,7 +48,7 @@ floor_quotient_requires c κs =
 returns_2 : tie.Need-returns
 returns_2 c =
     let s = c.before.before in
-    back c.floor_quotient.type-inv ∙ (rw (top_is s, square_is s) at c.floor_quotient.ensures)
+    back c.floor_quotient.type_inv ∙ (rw (top_is s, square_is s) at c.floor_quotient.ensures)
 
 pub candidate_slope_spec : {M : Type 1} → statement M
 candidate_slope_spec =

@@ -68,8 +68,8 @@ added : (c : Added)
     (o.loop-i.sum + c.absolute-sum.result)
 added c =
     let o = (turn c).before in
-    let total_is = back c.before.pair_total.type-inv ∙ c.before.pair_total.ensures in
-    pair_sum_more o.loop-i.inv o.before.pre.0.0 (turn c).loop-i-test.true (c.absolute-sum.ensures ∙ ap nat_abs total_is)
+    let total_is = back c.before.pair_total.type_inv ∙ c.before.pair_total.ensures in
+    pair_sum_more o.loop-i.invariant o.before.requires.0.0 (turn c).loop-i-test.true (c.absolute-sum.ensures ∙ ap nat_abs total_is)
 
 add_sum : tie.Need-overflow_add-sum invariant_loop decreases_loop
 unfolding pair_totals
@@ -81,13 +81,13 @@ sub_k : tie.Need-overflow_sub-k invariant_loop decreases_loop
 sub_k c = search rules
 
 sub_k_2 : tie.Need-overflow_sub-k-in-loop-i invariant_loop decreases_loop
-sub_k_2 c = omega (arith, (turn c).loop-i-test.true, (start (turn c)).pre.0.0)
+sub_k_2 c = omega (arith, (turn c).loop-i-test.true, (start (turn c)).requires.0.0)
 
 add_k : tie.Need-overflow_add-k invariant_loop decreases_loop
 add_k c = omega (arith, (symbols_are (turn c)).0)
 
 add_i : tie.Need-overflow_add-i invariant_loop decreases_loop
-add_i c = omega (arith, (turn c).loop-i-test.true, (start (turn c)).pre.0.0)
+add_i c = omega (arith, (turn c).loop-i-test.true, (start (turn c)).requires.0.0)
 
 loop_less : tie.Need-loop-i-smaller invariant_loop decreases_loop
 loop_less c = search rules

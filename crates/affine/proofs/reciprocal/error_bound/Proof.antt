@@ -98,7 +98,7 @@ sum_is : (c : tie.After-dropped_part-dropped)
     ≡ error_bound (start c).args.squares (x (start c)) (z (start c))
 sum_is c =
     let s = start c in
-    let p = s.pre.1 in
+    let p = s.requires.1 in
     let squares = s.args.squares in
     let centre = rw (product_is s, to_z-of_z w64 _ (less_fits s)) at c.before.before.before.absolute-centre.ensures in
     let linear = c.before.before.linear_bound-linear.ensures ∙ ap sum_abs (linear_totals_of_parts (x s) (z s) (c_is s) (d_is s)) in

@@ -42,7 +42,7 @@ not_below c = rw (high_is c.before.before) at c.if-high-lt0.false
 -- what a reciprocal asks on either side of 0
 asked : (s : tie.Start)
     → let g = s.args in
-    (g.squares ≤ paired) × (g.own < symbols) × (span g.x ≤ span_limit) × (g.x-radius ≡ radius g.x) × NoneFrom g.own g.x.linear
+    (g.squares ≤ paired) × (g.own < symbols) × (span g.x ≤ span_limit) × (g.x_radius ≡ radius g.x) × NoneFrom g.own g.x.linear
 asked s = search rules
 
 -- ---- the range above 0
@@ -56,7 +56,7 @@ reciprocal_apart_requires : tie.Need-reciprocal_apart-requires
 reciprocal_apart_requires c κs =
     let s = start c.before.before in
     let t = above c.before in
-    let o = s.pre.0.3 (apart_above s.args.range t) in
+    let o = s.requires.0.3 (apart_above s.args.range t) in
     (asked s, rw (low_distance c) (some_above s.args.range.low t, o.some, o.within))
 
 returns : tie.Need-returns-then-low-gt0
@@ -77,7 +77,7 @@ reciprocal_apart_requires_2 : tie.Need-reciprocal_apart-requires-then-high-lt0
 reciprocal_apart_requires_2 c κs =
     let s = start c.before.before.before in
     let t = below c.before in
-    let o = s.pre.0.3 (apart_below s.args.range (not_above c.before.before) t) in
+    let o = s.requires.0.3 (apart_below s.args.range (not_above c.before.before) t) in
     (asked s, rw (high_distance c) (some_below s.args.range.high t, o.some, o.within))
 
 returns_2 : tie.Need-returns-then-high-lt0

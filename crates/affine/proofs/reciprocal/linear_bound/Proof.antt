@@ -66,8 +66,8 @@ added : (c : Added)
     SymbolSum (linear_total (read_x (lent (start t))) (read_y (lent (start t)))) (start t).args.own (index t + 1) (t.before.loop-i.sum + c.absolute-sum.result)
 added c =
     let t = within c in
-    let total_is = back c.before.linear_total.type-inv ∙ c.before.linear_total.ensures in
-    symbol_sum_more t.before.loop-i.inv (start t).pre.0.0 t.loop-i-test.taken (c.absolute-sum.ensures ∙ ap nat_abs total_is)
+    let total_is = back c.before.linear_total.type_inv ∙ c.before.linear_total.ensures in
+    symbol_sum_more t.before.loop-i.invariant (start t).requires.0.0 t.loop-i-test.true (c.absolute-sum.ensures ∙ ap nat_abs total_is)
 
 add_sum : tie.Need-overflow_add-sum invariant_loop decreases_loop
 unfolding linear_totals

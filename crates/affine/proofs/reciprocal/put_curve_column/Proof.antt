@@ -80,8 +80,8 @@ met c = meeting (candidate_linear (x (start c))) (x (start c)).linear (first_of 
 meeting_at_requires : tie.Need-meeting_at-met-requires invariant_loop decreases_loop
 meeting_at_requires c κs =
     let s = start c.before in (
-      omega (arith, c.before.loop-i-test.true, s.pre.0.0),
-      ((λ n. rw s.pre.1.0 (omega (arith, candidate_linear_within (x s) s.pre.0.2 s.pre.0.3 n))), linear_at_within (x s) s.pre.0.1),
+      omega (arith, c.before.loop-i-test.true, s.requires.0.0),
+      ((λ n. rw s.requires.1.0 (omega (arith, candidate_linear_within (x s) s.requires.0.2 s.requires.0.3 n))), linear_at_within (x s) s.requires.0.1),
     )
 
 meets : (c : Turn) → meeting (start c).args.z.now (x (start c)).linear (i c) (j c) ≡ met c
@@ -89,14 +89,14 @@ meets c =
     rw ((symbols_of_lem c).1, (symbols_of_lem c).2) (ap (λ z. meeting z (x (start c)).linear (i c) (j c)) (start c).requires.1.0)
 
 met_is : (c : tie.After-meeting_at-met invariant_loop decreases_loop) → to_z w64 (of_z w64 c.meeting_at-met.result) ≡ met c.before.before
-met_is c = back c.meeting_at-met.type-inv ∙ c.meeting_at-met.ensures ∙ meets c.before.before
+met_is c = back c.meeting_at-met.type_inv ∙ c.meeting_at-met.ensures ∙ meets c.before.before
 
 -- ---- its curve
 candidate_curve_requires : tie.Need-candidate_curve-requires invariant_loop decreases_loop
 candidate_curve_requires c κs =
     let o = c.before.before in
     let s = start o in
-    let p = s.pre.0 in
+    let p = s.requires.0 in
     rw (c_is s, p_is c.before, met_is c) (
       centre_within (x s) p.1,
       pair_at_within (x s) p.1 (k o),
@@ -110,7 +110,7 @@ turn c = c.before.before.before
 curve_is : (c : tie.After-candidate_curve invariant_loop decreases_loop)
     → to_z w64 (of_z w64 c.candidate_curve.result) ≡ curve (x (start (turn c))) (k (turn c))
 curve_is c =
-    back c.candidate_curve.type-inv ∙ (rw (c_is (start (turn c)), p_is c.before.before, met_is c.before) at c.candidate_curve.ensures)
+    back c.candidate_curve.type_inv ∙ (rw (c_is (start (turn c)), p_is c.before.before, met_is c.before) at c.candidate_curve.ensures)
 
 mul_t12 : tie.Need-offset_bounds-out-k invariant_loop decreases_loop
 mul_t12 c = let h = symbols_of_lem (turn c) in search rules
@@ -122,7 +122,7 @@ sub_k : tie.Need-overflow_sub-k invariant_loop decreases_loop
 sub_k c = search rules
 
 sub_k_2 : tie.Need-overflow_sub-k-in-loop-i invariant_loop decreases_loop
-sub_k_2 c = omega (arith, (turn c).loop-i-test.true, (start (turn c)).pre.0.0)
+sub_k_2 c = omega (arith, (turn c).loop-i-test.true, (start (turn c)).requires.0.0)
 
 add_k : tie.Need-overflow_add-k invariant_loop decreases_loop
 add_k c = let h = symbols_of_lem (turn c) in search rules
@@ -137,12 +137,12 @@ loop_again : tie.Need-loop-i-preserved invariant_loop decreases_loop
 loop_again c =
     let o = turn c in
     let s = start o in
-    let h = s.pre.0.0 in
-    let here = o.before.loop-i.inv.0 in
-    let put = rw (c_is s) at o.before.loop-i.inv.1 in
+    let h = s.requires.0.0 in
+    let here = o.before.loop-i.invariant.0 in
+    let put = rw (c_is s) at o.before.loop-i.invariant.1 in
     rw (c_is s) (
-      at_next h o.loop-i-test.taken here,
-      ap₂ (λ l v. set l (k o) v) put (curve_is c) ∙ column_more (curve (x s)) h o.loop-i-test.taken here,
+      at_next h o.loop-i-test.true here,
+      ap₂ (λ l v. set l (k o) v) put (curve_is c) ∙ column_more (curve (x s)) h o.loop-i-test.true here,
     )
 
 same_length : tie.Need-shape_of-out invariant_loop decreases_loop

@@ -32,10 +32,10 @@ candidate_row_requires c κs = search rules
 
 -- ---- the candidate, and the test of its span
 abbrev wanted : tie.Start → Row
-wanted c = candidate c.args.squares c.args.t1
+wanted c = candidate c.args.squares c.args.x
 
 candidate_small : (c : tie.Start) → span (wanted c) < 2 ^ 64
-candidate_small c = span_candidate c.args.squares c.args.t1 c.requires.1.1 c.requires.1.2 c.requires.0.2
+candidate_small c = span_candidate c.args.squares c.args.x c.requires.1.1 c.requires.1.2 c.requires.0.2
 
 abbrev made : tie.After-candidate_row-z → Row
 made c = c.candidate_row-z.result
@@ -83,15 +83,15 @@ inside c = test_is c.before.before ∙ not-false _ c.if-not-measured.false
 kept : (c : tie.Else-not-measured) → span (wanted (from c.before.before).before) ≤ span_limit
 kept c = leb-true (span (wanted (from c.before.before).before)) span_limit (inside c)
 
-x_fits : (c : tie.Start) → SFits w64 c.args.t1.centre
+x_fits : (c : tie.Start) → SFits w64 c.args.x.centre
 x_fits c = search rules
 
-x_long : (c : tie.Start) → length c.args.t1.linear ≡ symbols
+x_long : (c : tie.Start) → length c.args.x.linear ≡ symbols
 x_long c = search rules
 
 -- the candidate has no more linear coefficients than the operand
 none_made : (c : tie.After-candidate_row-z) → NoneFrom c.before.args.own (made c).linear
-none_made c i h = ap (λ r. at r.linear i) c.candidate_row-z.ensures ∙ candidate_linear_zero c.before.args.t1 i (c.before.requires.0.4 i h)
+none_made c i h = ap (λ r. at r.linear i) c.candidate_row-z.ensures ∙ candidate_linear_zero c.before.args.x i (c.before.requires.0.4 i h)
 
 error_bound_requires : tie.Need-error_bound-bound-requires
 error_bound_requires c κs =
@@ -99,7 +99,7 @@ error_bound_requires c κs =
     let t = e.before.before in
     let m = from t in
     let s = m.before in
-    let (squares_few, own_small, x_within, x_radius_is, none) = s.pre.0 in
+    let (squares_few, own_small, x_within, x_radius_is, none) = s.requires.0 in
     rw (lent m, to_z-of_z w64 _ (x_fits s)) (
       (squares_few, omega arith, none, none_made m),
       ((x_long s, x_within, x_radius_is), (made_long m, kept e, radius_measured (wanted s) (told t))),
@@ -117,7 +117,7 @@ root c = from (else c).before.before
 
 bound_is : (c : tie.After-error_bound-bound)
     → let s = (root c).before in
-    c.error_bound-bound.result ≡ error_bound s.args.squares s.args.t1 (wanted s)
+    c.error_bound-bound.result ≡ error_bound s.args.squares s.args.x (wanted s)
 bound_is c =
     let m = root c in
     rw (lent m, to_z-of_z w64 _ (x_fits m.before)) at c.error_bound-bound.ensures
@@ -125,19 +125,19 @@ bound_is c =
 bound_within : (c : tie.After-error_bound-bound) → c.error_bound-bound.result ≤ span_limit * span_limit + unit_squared
 bound_within c =
     let s = (root c).before in
-    rw (bound_is c) (error_bound_within s.args.squares s.args.t1 (wanted s) s.pre.0.2 (kept (else c)))
+    rw (bound_is c) (error_bound_within s.args.squares s.args.x (wanted s) s.requires.0.2 (kept (else c)))
 
 abbrev start : tie.After-ceiling_quotient → tie.Start
 start c = (root c.before).before
 
 own_is : (c : tie.After-ceiling_quotient)
-    → c.ceiling_quotient.result ≡ ceiling_quotient (error_bound (start c).args.squares (start c).args.t1 (wanted (start c))) (start c).args.distance
+    → c.ceiling_quotient.result ≡ ceiling_quotient (error_bound (start c).args.squares (start c).args.x (wanted (start c))) (start c).args.distance
 own_is c = c.ceiling_quotient.ensures ∙ ap (λ n. ceiling_quotient n (start c).args.distance) (bound_is c.before)
 
 own_small : (c : tie.After-ceiling_quotient) → c.ceiling_quotient.result < 2 ^ 63
 own_small c =
     let s = start c in
-    omega (arith, c.ceiling_quotient.ensures, ceiling_at_most c.before.error_bound-bound.result s.args.distance s.pre.1.0, bound_within c.before)
+    omega (arith, c.ceiling_quotient.ensures, ceiling_at_most c.before.error_bound-bound.result s.args.distance s.requires.1.0, bound_within c.before)
 
 cast_row : tie.Need-overflow_cast-row
 cast_row c = record { sfits = own_small c }
@@ -152,7 +152,7 @@ element_set_from_row c = search rules
 row_is : (c : tie.After-ceiling_quotient)
     → let s = start c in
     with_own s.args.own (to_z w64 c.ceiling_quotient.result) (made (root c.before))
-    ≡ reciprocal_row s.args.squares s.args.own s.args.t1 s.args.distance
+    ≡ reciprocal_row s.args.squares s.args.own s.args.x s.args.distance
 unfolding reciprocal_own reciprocal_row
 row_is c =
     let s = start c in

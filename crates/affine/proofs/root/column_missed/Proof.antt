@@ -74,20 +74,20 @@ v_is : (c : Totalled) → let t = within c in to_z w64 (of_z w64 (at (start t).a
 v_is c = back c.before.v-1.given
 
 total_is : (c : Totalled) → let t = within c in to_z w64 (of_z w64 c.pair_total-t.result) ≡ pair_total (read_y (lent (start t))) (read_y (lent (start t))) t.before.loop-i.k
-total_is c = back c.pair_total-t.type-inv ∙ c.pair_total-t.ensures
+total_is c = back c.pair_total-t.type_inv ∙ c.pair_total-t.ensures
 
 total_within : (c : tie.In-loop-i invariant_loop decreases_loop) → let y = read_y (lent (start c)) in nat_abs (pair_total y y c.before.loop-i.k) ≤ span_limit * span_limit
 unfolding pair_totals
 total_within c =
     let s = start c in
     let y = read_y (lent s) in
-    omega (arith, pair_within_sum (pair_total y y) s.pre.0.0 c.loop-i-test.true c.before.loop-i.invariant.here, totals_within (suc s.args.j) y y (y_within s) (y_within s))
+    omega (arith, pair_within_sum (pair_total y y) s.requires.0.0 c.loop-i-test.true c.before.loop-i.invariant.here, totals_within (suc s.args.j) y y (y_within s) (y_within s))
 
 missed_requires : tie.Need-missed-requires invariant_loop decreases_loop
 missed_requires c κs =
     let t = within c in
     let s = start t in
-    rw (v_is c, total_is c) (element_within s.args.p.now s.pre.0.1 t.before.loop-i.k, total_within t)
+    rw (v_is c, total_is c) (element_within s.args.p.now s.requires.0.1 t.before.loop-i.k, total_within t)
 
 absolute_requires : tie.Need-absolute-sum-requires invariant_loop decreases_loop
 absolute_requires c κs = search rules
@@ -106,8 +106,8 @@ added : (c : Added)
 added c =
     let o = (turn c).before in
     let m = c.before in
-    let missed_is = back m.missed.type-inv ∙ (rw (v_is m.before, total_is m.before) at m.missed.ensures) in
-    pair_sum_more o.loop-i.inv o.before.pre.0.0 (turn c).loop-i-test.true (c.absolute-sum.ensures ∙ ap nat_abs missed_is)
+    let missed_is = back m.missed.type_inv ∙ (rw (v_is m.before, total_is m.before) at m.missed.ensures) in
+    pair_sum_more o.loop-i.invariant o.before.requires.0.0 (turn c).loop-i-test.true (c.absolute-sum.ensures ∙ ap nat_abs missed_is)
 
 add_sum : tie.Need-overflow_add-sum invariant_loop decreases_loop
 unfolding pair_misses
@@ -122,13 +122,13 @@ sub_k : tie.Need-overflow_sub-k invariant_loop decreases_loop
 sub_k c = search rules
 
 sub_k_2 : tie.Need-overflow_sub-k-in-loop-i invariant_loop decreases_loop
-sub_k_2 c = omega (arith, (turn c).loop-i-test.true, (start (turn c)).pre.0.0)
+sub_k_2 c = omega (arith, (turn c).loop-i-test.true, (start (turn c)).requires.0.0)
 
 add_k : tie.Need-overflow_add-k invariant_loop decreases_loop
 add_k c = omega (arith, (symbols_are (turn c)).0)
 
 add_i : tie.Need-overflow_add-i invariant_loop decreases_loop
-add_i c = omega (arith, (turn c).loop-i-test.true, (start (turn c)).pre.0.0)
+add_i c = omega (arith, (turn c).loop-i-test.true, (start (turn c)).requires.0.0)
 
 loop_less : tie.Need-loop-i-smaller invariant_loop decreases_loop
 loop_less c = search rules

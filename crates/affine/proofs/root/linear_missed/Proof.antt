@@ -71,7 +71,7 @@ v_is : (c : Totalled) → let t = within c in to_z w64 (of_z w64 (at (start t).a
 v_is c = back c.before.v-1.given
 
 total_is : (c : Totalled) → let t = within c in to_z w64 (of_z w64 c.linear_total-t.result) ≡ linear_total (read_y (lent (start t))) (read_y (lent (start t))) (index t)
-total_is c = back c.linear_total-t.type-inv ∙ c.linear_total-t.ensures
+total_is c = back c.linear_total-t.type_inv ∙ c.linear_total-t.ensures
 
 total_within : (c : tie.In-loop-i invariant_loop decreases_loop) → let y = read_y (lent (start c)) in nat_abs (linear_total y y (index c)) ≤ span_limit * span_limit
 unfolding linear_totals
@@ -84,7 +84,7 @@ missed_requires : tie.Need-missed-requires invariant_loop decreases_loop
 missed_requires c κs =
     let t = within c in
     let s = start t in
-    rw (v_is c, total_is c) (element_within s.args.a.now s.pre.1.0 (index t), total_within t)
+    rw (v_is c, total_is c) (element_within s.args.a.now s.requires.1.0 (index t), total_within t)
 
 absolute_requires : tie.Need-absolute-sum-requires invariant_loop decreases_loop
 absolute_requires c κs = search rules
@@ -102,8 +102,8 @@ added : (c : Added)
 added c =
     let t = turn c in
     let m = c.before in
-    let missed_is = back m.missed.type-inv ∙ (rw (v_is m.before, total_is m.before) at m.missed.ensures) in
-    symbol_sum_more t.before.loop-i.inv (start t).pre.0.0 t.loop-i-test.taken (c.absolute-sum.ensures ∙ ap nat_abs missed_is)
+    let missed_is = back m.missed.type_inv ∙ (rw (v_is m.before, total_is m.before) at m.missed.ensures) in
+    symbol_sum_more t.before.loop-i.invariant (start t).requires.0.0 t.loop-i-test.true (c.absolute-sum.ensures ∙ ap nat_abs missed_is)
 
 add_sum : tie.Need-overflow_add-sum invariant_loop decreases_loop
 unfolding linear_misses

@@ -50,13 +50,13 @@ v_is c = back c.v-1.given
 root_slope_requires : tie.Need-root_slope-requires invariant_loop decreases_loop
 root_slope_requires c κs =
     let s = (turn c).before in
-    rw (v_is c) (s.pre.1.0, s.pre.1.1, element_within s.args.a.now s.pre.1.2 (turn c).loop-i.i)
+    rw (v_is c) (s.requires.1.0, s.requires.1.1, element_within s.args.a.now s.requires.1.2 (turn c).loop-i.i)
 
 mul_t8 : tie.Need-offset_bounds-out-i invariant_loop decreases_loop
 mul_t8 c = search rules
 
 slice_set_from_out : tie.Need-bounds-out-i invariant_loop decreases_loop
-slice_set_from_out c = omega (arith, long (turn c.before), (turn c.before).before.pre.0.0, c.before.before.loop-i-test.true)
+slice_set_from_out c = omega (arith, long (turn c.before), (turn c.before).before.requires.0.0, c.before.before.loop-i-test.true)
 
 add_i : tie.Need-overflow_add-i invariant_loop decreases_loop
 add_i c = search rules
@@ -67,9 +67,9 @@ loop_less c = search rules
 loop_again : tie.Need-loop-i-preserved invariant_loop decreases_loop
 loop_again c =
     let o = turn c.before in
-    let put = back c.root_slope.type-inv ∙ (rw (v_is c.before) at c.root_slope.ensures) in
-    ap₂ (λ l v. set l o.loop-i.i v) o.loop-i.inv put
-    ∙ front_more (length o.before.args.a.now) _ o.loop-i.i (omega (arith, o.before.pre.0.0, c.before.before.loop-i-test.true))
+    let put = back c.root_slope.type_inv ∙ (rw (v_is c.before) at c.root_slope.ensures) in
+    ap₂ (λ l v. set l o.loop-i.i v) o.loop-i.invariant put
+    ∙ front_more (length o.before.args.a.now) _ o.loop-i.i (omega (arith, o.before.requires.0.0, c.before.before.loop-i-test.true))
 
 same_length : tie.Need-shape_of-out invariant_loop decreases_loop
 same_length c = long c.before ∙ sym (ap length (loop_holds c.before.before) ∙ length_front _ _ 0)

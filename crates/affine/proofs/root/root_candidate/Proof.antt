@@ -19,7 +19,7 @@ use Rattle.affine.proofs.root.root_candidate.Tie as tie
 
 -- ---- the operand
 abbrev x : tie.After-struct_told-1 → Row
-x c = c.before.args.t1
+x c = c.before.args.x
 
 long : (c : tie.After-struct_told-1) → (length (x c).linear-1 ≡ symbols) × (length (x c).pair-1 ≡ pairs)
 long c = search rules
@@ -52,7 +52,7 @@ put_root_slopes_requires : tie.Need-put_root_slopes-requires
 put_root_slopes_requires c κs =
     let o = rooted c in
     let t = o.before in
-    let p = t.before.pre in
+    let p = t.before.requires in
     let l = (long t).0 in (
       (omega (arith, p.0), ap (λ n. replicate n (pos 0)) (sym l), p.1),
       ((z_size o).0, (z_size o).1, linear_within (x t) p.2),
@@ -76,7 +76,7 @@ put_root_slopes_requires_2 c κs =
     let t = o.before in
     let l = (long t).1 in (
       (omega arith, ap (λ n. replicate n (pos 0)) (sym l), λ k h. get_or-eq_default (x t).pair-1 (pos 0) (omega arith)),
-      ((z_size o).0, (z_size o).1, pair_within (x t) t.before.pre.2),
+      ((z_size o).0, (z_size o).1, pair_within (x t) t.before.requires.2),
     )
 
 cast_t7 : tie.Need-overflow_cast-result

@@ -31,7 +31,7 @@ use Rattle.affine.proofs.root.root_from.Statement.{statement}
 use Rattle.affine.proofs.root.root_from.Tie as tie
 
 -- ---- the operand: its centre is above 0
-centre_some : (c : tie.Start) → pos 1 ≤ℤ c.args.t1.centre
+centre_some : (c : tie.Start) → pos 1 ≤ℤ c.args.x.centre
 centre_some c = ≤ℤ_trans c.requires.4 c.requires.5
 
 root_candidate_requires : tie.Need-root_candidate-z-requires
@@ -39,7 +39,7 @@ root_candidate_requires c κs = let p = c.requires in (omega arith, p.3, p.2, ce
 
 -- ---- the candidate, and the test of its span
 abbrev wanted : tie.Start → Row
-wanted c = root_candidate c.args.t1
+wanted c = root_candidate c.args.x
 
 abbrev made : tie.After-root_candidate-z → Row
 made c = c.root_candidate-z.result
@@ -60,7 +60,7 @@ lent c = rw (to_z-of_z w64 _ (made_fits c)) c.root_candidate-z.ensures
 measure_requires : tie.Need-measure-measured-requires
 measure_requires c κs =
     let m = c.before.before.before.before in
-    (made_pairs m, span_as (lent m) (span_root_candidate m.before.args.t1 (centre_some m.before) m.before.requires.2))
+    (made_pairs m, span_as (lent m) (span_root_candidate m.before.args.x (centre_some m.before) m.before.requires.2))
 
 abbrev from : tie.After-measure-measured → tie.After-root_candidate-z
 from c = c.before.before.before.before.before
@@ -114,7 +114,7 @@ returns_2 : tie.Need-returns-then-measured-lt0
 returns_2 c = rw (inside (else c.before.before), below c.before) c.refusal-then-measured-lt0.ensures
 
 -- ---- the error bound
-x_fits : (c : tie.Start) → SFits w64 c.args.t1.centre
+x_fits : (c : tie.Start) → SFits w64 c.args.x.centre
 x_fits c = search rules
 
 abbrev tested : tie.After-square_error-arg-4-1 → tie.Else-measured-lt0
@@ -122,14 +122,14 @@ tested c = c.before.before.before.before.before.before.before
 
 -- the candidate has no more linear coefficients than the operand
 none_made : (c : tie.After-root_candidate-z) → NoneFrom c.before.args.own (made c).linear
-none_made c i h = ap (λ r. at r.linear i) c.root_candidate-z.ensures ∙ root_candidate_none c.before.args.t1 c.before.args.own c.before.requires.3 i h
+none_made c i h = ap (λ r. at r.linear i) c.root_candidate-z.ensures ∙ root_candidate_none c.before.args.x c.before.args.own c.before.requires.3 i h
 
 square_error_requires : tie.Need-square_error-bound-requires
 square_error_requires c κs =
     let e = (tested c).before in
     let m = root e in
     let s = m.before in
-    let (squares_few, own_small, x_within, none, some, from_low) = s.pre in
+    let (squares_few, own_small, x_within, none, some, from_low) = s.requires in
     rw (lent m, to_z-of_z w64 _ (x_fits s)) (
       (squares_few, omega arith, none, none_made m),
       ((made_long m, x_within), (kept (else e), radius_measured (wanted s) (told (else e).before.before))),
@@ -138,7 +138,7 @@ square_error_requires c κs =
 abbrev start : tie.After-square_error-bound → tie.Start
 start c = (root (tested c.before).before).before
 
-bound_is : (c : tie.After-square_error-bound) → c.square_error-bound.result ≡ square_error (start c).args.squares (start c).args.t1 (wanted (start c))
+bound_is : (c : tie.After-square_error-bound) → c.square_error-bound.result ≡ square_error (start c).args.squares (start c).args.x (wanted (start c))
 bound_is c =
     let m = root (tested c.before).before in
     rw (lent m, to_z-of_z w64 _ (x_fits m.before)) at c.square_error-bound.ensures
@@ -146,7 +146,7 @@ bound_is c =
 bound_within : (c : tie.After-square_error-bound) → c.square_error-bound.result ≤ span_limit * span_limit + unit * span_limit
 bound_within c =
     let s = start c in
-    rw (bound_is c) (square_error_within s.args.squares s.args.t1 (wanted s) s.pre.2 (kept (else (tested c.before).before)))
+    rw (bound_is c) (square_error_within s.args.squares s.args.x (wanted s) s.requires.2 (kept (else (tested c.before).before)))
 
 -- ---- what it is divided by
 least_is : (c : tie.Start) → to_z w64 (of_z w64 c.args.least) ≡ c.args.least
@@ -155,7 +155,7 @@ least_is c = to_z-of_z w64 _ c.ranges.least
 unit_root_requires : tie.Need-unit_root-divisor-requires
 unit_root_requires c κs =
     let s = start c in
-    rw (least_is s) (s.pre.4, least_within s.pre.4 s.pre.5 (centre_within s.args.t1 s.pre.2))
+    rw (least_is s) (s.requires.4, least_within s.requires.4 s.requires.5 (centre_within s.args.x s.requires.2))
 
 divisor_is : (c : tie.After-unit_root-divisor) → c.unit_root-divisor.result ≡ unit_root (start c.before).args.least
 divisor_is c = rw (least_is (start c.before)) at c.unit_root-divisor.ensures
@@ -171,7 +171,7 @@ abbrev first : tie.After-ceiling_quotient → tie.Start
 first c = start c.before.before
 
 quotient_is : (c : tie.After-ceiling_quotient)
-    → c.ceiling_quotient.result ≡ ceiling_quotient (square_error (first c).args.squares (first c).args.t1 (wanted (first c))) (unit_root (first c).args.least)
+    → c.ceiling_quotient.result ≡ ceiling_quotient (square_error (first c).args.squares (first c).args.x (wanted (first c))) (unit_root (first c).args.least)
 quotient_is c = c.ceiling_quotient.ensures ∙ ap₂ ceiling_quotient (bound_is c.before.before) (divisor_is c.before)
 
 own_small : (c : tie.After-ceiling_quotient) → c.ceiling_quotient.result + 1 < 2 ^ 63
@@ -199,7 +199,7 @@ element_set_from_row c = (first c).requires.1
 row_is : (c : tie.After-ceiling_quotient)
     → let s = first c in
     with_own s.args.own (to_z w64 (c.ceiling_quotient.result + 1)) (made (root (tested c.before.before.before).before))
-    ≡ root_row s.args.squares s.args.own s.args.t1 s.args.least
+    ≡ root_row s.args.squares s.args.own s.args.x s.args.least
 unfolding root_own root_row
 row_is c =
     let s = first c in

@@ -95,15 +95,15 @@ centre_absolute : (c : tie.After-absolute) → c.absolute.result ≡ nat_abs (ce
 centre_absolute c = c.absolute.ensures ∙ ap nat_abs (back_as (centre_is c.before.before.before) (centre_ok (start c)))
 
 radius_is : (c : tie.After-absolute) → c.before.absolute-radius.result ≡ radius (row (start c))
-radius_is c = let s = start c in own_absolute c ∙ sym (radius_input s.args.own s.args.low s.args.high s.pre.0)
+radius_is c = let s = start c in own_absolute c ∙ sym (radius_input s.args.own s.args.low s.args.high s.requires.0)
 
 span_is : (c : tie.After-absolute) → c.absolute.result + c.before.absolute-radius.result ≡ span (row (start c))
-span_is c = let s = start c in omega (arith, centre_absolute c, own_absolute c, span_input s.args.own s.args.low s.args.high s.pre.0)
+span_is c = let s = start c in omega (arith, centre_absolute c, own_absolute c, span_input s.args.own s.args.low s.args.high s.requires.0)
 
 add_within : tie.Need-overflow_add-within
 add_within c =
     let s = start c in
-    record { fits = omega (arith, centre_absolute c, own_absolute c, both_within s.args.low s.args.high s.pre.1 s.pre.2) }
+    record { fits = omega (arith, centre_absolute c, own_absolute c, both_within s.args.low s.args.high s.requires.1 s.requires.2) }
 
 answer_requires : tie.Need-answer-requires
 answer_requires c κs = radius_is c ∙ ap radius (sym (row_is c.before.before))
@@ -114,7 +114,7 @@ returns c =
     let s = start a in
     c.answer.ensures
     ∙ λ i. pick (leb (span_is a i) span_limit)
-    (accepted (row_is a.before.before i) (record { low = to_z-of_z w64 _ s.fits.low i; high = to_z-of_z w64 _ s.fits.high i }))
+    (accepted (row_is a.before.before i) (record { low = to_z-of_z w64 _ s.ranges.low i; high = to_z-of_z w64 _ s.ranges.high i }))
     (refused SpanPassed)
 
 pub input_spec : {M : Type 1} → statement M

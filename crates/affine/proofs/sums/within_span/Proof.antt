@@ -10,7 +10,7 @@ use Rattle.affine.proofs.RowSize.{span_is_sum}
 use Rattle.affine.proofs.sums.within_span.Statement.{statement}
 use Rattle.affine.proofs.sums.within_span.Tie as tie
 
-centre : (c : tie.Start) → SFits w64 c.args.t1.centre
+centre : (c : tie.Start) → SFits w64 c.args.row.centre
 centre c = search rules
 
 capped_sum_requires : tie.Need-capped_sum-s-requires
@@ -26,7 +26,7 @@ returns : tie.Need-returns
 returns c =
     let l = c.before.before.before.before in
     let s = l.before.before.before.before.before.before in
-    let r = s.args.t1 in
+    let r = s.args.row in
     rw (c.capped_absolutes-u.ensures, l.capped_absolutes-t.ensures, l.before.before.before.before.capped_sum-s.ensures, to_z-of_z w64 r.centre (centre s), span_is_sum r)
     (capped_parts (nat_abs r.centre) (sum_abs r.linear) (sum_abs r.pair))
 
