@@ -69,7 +69,7 @@ slice_aggregate_put_linear c = search rules
 
 put_linear_requires : tie.Need-put_linear-requires
 put_linear_requires c κs =
-    let s = c.before.before.before.before.before.before.before.before in
+    let s = c.before.before.before.before.before.before in
     let x = s.args.x in
     let y = s.args.y in
     let hx = s.requires.0.2 in
@@ -83,7 +83,7 @@ abbrev Symbols : Type 0
 Symbols = tie.After-linear-2-1
 
 abbrev centred : Symbols → tie.After-nearest_remainder_4096
-centred c = c.before.before.before.before.before.before.before
+centred c = c.before.before.before.before.before
 
 abbrev from : Symbols → tie.Start
 from c = (centred c).before.before.before
@@ -91,7 +91,7 @@ from c = (centred c).before.before.before
 centre_left : (c : Symbols) → (centred c).nearest_remainder_4096.result ≡ nat_abs (product_rounding.remainder (centre (from c)))
 centre_left c = (centred c).nearest_remainder_4096.ensures ∙ ap (λ t. nat_abs (product_rounding.remainder t)) (total_is (from c))
 
-linear_is : (c : Symbols) → c.before.put_linear.new.0 ≡ quotients (linear_totals (from c).args.x (from c).args.y)
+linear_is : (c : Symbols) → c.before.put_linear.new.out ≡ quotients (linear_totals (from c).args.x (from c).args.y)
 linear_is c =
     let s = from c in
     c.before.put_linear.ensures.0 ∙ ap quotients (linear_totals_of_parts s.args.x s.args.y (x_is s) (y_is s))
@@ -120,14 +120,14 @@ slice_aggregate_put_pairs c = search rules
 
 put_pairs_requires : tie.Need-put_pairs-requires
 put_pairs_requires c κs =
-    let s = from c.before.before.before.before.before.before.before in
+    let s = from c.before.before.before.before.before in
     rw (x_is s, y_is s) ((s.requires.0.0, refl), (s.requires.0.2, s.requires.0.3))
 
 abbrev Pairs : Type 0
 Pairs = tie.After-pair-2-1
 
 abbrev singles : Pairs → Symbols
-singles c = c.before.before.before.before.before.before.before.before.before
+singles c = c.before.before.before.before.before.before.before
 
 abbrev origin : Pairs → tie.Start
 origin c = from (singles c)
@@ -138,7 +138,7 @@ totals_are : (c : Pairs)
     ≡ pair_totals g.squares g.x g.y
 totals_are c = let s = origin c in pair_totals_of_parts s.args.x s.args.y (x_is s) (y_is s) s.args.squares
 
-pair_is : (c : Pairs) → c.before.put_pairs.new.0 ≡ quotients (pair_totals (origin c).args.squares (origin c).args.x (origin c).args.y)
+pair_is : (c : Pairs) → c.before.put_pairs.new.out ≡ quotients (pair_totals (origin c).args.squares (origin c).args.x (origin c).args.y)
 pair_is c = c.before.put_pairs.ensures.0 ∙ ap quotients (totals_are c)
 
 remainders_is : (c : Pairs)
@@ -162,7 +162,7 @@ add_remainders_2 c = omega (arith, remainders_is c, within (origin c))
 
 dropped_part_requires : tie.Need-dropped_part-requires
 dropped_part_requires c κs =
-    let s = origin c.before.before.before.before in
+    let s = origin c.before.before in
     let x = s.args.x in
     let y = s.args.y in (
       s.requires.0.0,
@@ -173,7 +173,7 @@ dropped_part_requires c κs =
     )
 
 abbrev paired : tie.After-dropped_part → Pairs
-paired c = c.before.before.before.before.before
+paired c = c.before.before.before
 
 dropped_is : (c : tie.After-dropped_part)
     → let g = (origin (paired c)).args in
@@ -213,8 +213,8 @@ own_small c = omega (arith, own_is c, within (own_start c))
 row_is : (c : tie.After-nearest_quotient_4096)
     → let p = paired c.before.before in
     let g = (origin p).args in
-    row_of_parts (to_z w64 (of_z w64 c.nearest_quotient_4096.result)) (set (singles p).before.put_linear.last.0 g.own (to_z w64 c.before.ceiling_quotient.result))
-    p.before.put_pairs.last.0
+    row_of_parts (to_z w64 (of_z w64 c.nearest_quotient_4096.result)) (set (singles p).before.put_linear.new.out g.own (to_z w64 c.before.ceiling_quotient.result))
+    p.before.put_pairs.new.out
     ≡ product_row g.squares g.own g.x g.y
 unfolding product_own product_row
 row_is c =

@@ -37,7 +37,7 @@ sub_floor_quotient c = rw (turned c.before) (size c.before).turned_fits
 floor_quotient_requires : tie.Need-floor_quotient-requires
 floor_quotient_requires c κs =
     let s = c.before in
-    rw (turned_is s, to_z-of_z w64 _ s.ranges.c) ((size s).centre_some, (size s).ranges)
+    rw (turned_is s, to_z-of_z w64 _ s.ranges.c) ((size s).centre_some, (size s).fits)
 
 returns_2 : tie.Need-returns
 returns_2 c =

@@ -26,7 +26,7 @@ c_is c = search rules
 
 -- ---- the linear coefficients
 abbrev told : tie.After-put_slopes-arg-1 → tie.After-struct_told-1
-told c = c.before.before.before
+told c = c.before.before
 
 slice_aggregate_put_slopes : tie.Need-slice_bounds-put_slopes-end
 slice_aggregate_put_slopes c = search rules
@@ -37,13 +37,13 @@ put_slopes_requires c κs =
     let p = o.before.requires in
     rw (c_is o) ((p.0.1, refl, p.0.2), (centre_within (x o) p.1.0, p.1.1, linear_within (x o) p.1.0))
 
-linear_is : (c : tie.After-put_slopes) → c.put_slopes.new.0 ≡ candidate_linear (x (told c.before))
+linear_is : (c : tie.After-put_slopes) → c.put_slopes.new.out ≡ candidate_linear (x (told c.before))
 unfolding candidate_linear
 linear_is c = rw (c_is (told c.before)) at c.put_slopes.ensures
 
 -- ---- the coefficients of the pairs
 abbrev slopes : tie.After-linear-3-1 → tie.After-put_slopes
-slopes c = c.before.before.before.before.before.before
+slopes c = c.before.before.before.before.before
 
 slice_aggregate_put_curves : tie.Need-slice_bounds-put_curves-end
 slice_aggregate_put_curves c = search rules
@@ -55,7 +55,7 @@ put_curves_requires c κs =
     rw (c_is o) ((p.0.0, p.1.0, p.1.1, p.1.2), (linear_is (slopes c), refl))
 
 pair_is : (c : tie.After-put_curves)
-    → c.put_curves.new.0 ≡ candidate_pair (told (slopes c.before).before).before.args.squares (x (told (slopes c.before).before))
+    → c.put_curves.new.out ≡ candidate_pair (told (slopes c.before).before).before.args.squares (x (told (slopes c.before).before))
 pair_is c = rw (c_is (told (slopes c.before).before)) at c.put_curves.ensures
 
 -- ---- the centre

@@ -43,7 +43,7 @@ mul_floor_quotient_2 c = let w = size c.before in search rules
 floor_quotient_requires : tie.Need-floor_quotient-requires
 floor_quotient_requires c κs =
     let s = c.before in
-    rw (top_is s, square_is s) ((size s).square_some, (size s).ranges)
+    rw (top_is s, square_is s) ((size s).square_some, (size s).fits)
 
 returns_2 : tie.Need-returns
 returns_2 c =

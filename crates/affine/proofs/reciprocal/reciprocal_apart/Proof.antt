@@ -55,11 +55,11 @@ lent c = rw (to_z-of_z w64 _ (made_fits c)) c.candidate_row-z.ensures
 
 measure_requires : tie.Need-measure-measured-requires
 measure_requires c κs =
-    let m = c.before.before.before.before in
+    let m = c.before.before.before in
     (made_pairs m, span_as (lent m) (candidate_small m.before))
 
 abbrev from : tie.After-measure-measured → tie.After-candidate_row-z
-from c = c.before.before.before.before.before
+from c = c.before.before.before.before
 
 told : (c : tie.After-measure-measured) → c.measure-measured.result ≡ measured (wanted (from c).before)
 told c = c.measure-measured.ensures ∙ ap measured (lent (from c))
@@ -95,7 +95,7 @@ none_made c i h = ap (λ r. at r.linear i) c.candidate_row-z.ensures ∙ candida
 
 error_bound_requires : tie.Need-error_bound-bound-requires
 error_bound_requires c κs =
-    let e = c.before.before.before.before.before.before.before in
+    let e = c.before.before.before.before.before in
     let t = e.before.before in
     let m = from t in
     let s = m.before in
@@ -110,7 +110,7 @@ ceiling_quotient_requires c κs = search rules
 
 -- ---- the own coefficient
 abbrev else : tie.After-error_bound-bound → tie.Else-not-measured
-else c = c.before.before.before.before.before.before.before.before
+else c = c.before.before.before.before.before.before
 
 abbrev root : tie.After-error_bound-bound → tie.After-candidate_row-z
 root c = from (else c).before.before

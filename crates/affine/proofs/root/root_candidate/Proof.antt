@@ -21,7 +21,7 @@ use Rattle.affine.proofs.root.root_candidate.Tie as tie
 abbrev x : tie.After-struct_told-1 → Row
 x c = c.before.args.x
 
-long : (c : tie.After-struct_told-1) → (length (x c).linear-1 ≡ symbols) × (length (x c).pair-1 ≡ pairs)
+long : (c : tie.After-struct_told-1) → (length (x c).linear ≡ symbols) × (length (x c).pair ≡ pairs)
 long c = search rules
 
 c_is : (c : tie.After-struct_told-1) → to_z w64 (of_z w64 (x c).centre) ≡ (x c).centre
@@ -43,7 +43,7 @@ z_size c =
 
 -- ---- the linear coefficients
 abbrev rooted : tie.After-put_root_slopes-arg-2-1 → tie.After-unit_root-z
-rooted c = c.before.before.before.before
+rooted c = c.before.before.before
 
 slice_aggregate_put_root_slopes : tie.Need-slice_bounds-put_root_slopes-end
 slice_aggregate_put_root_slopes c = search rules
@@ -60,12 +60,12 @@ put_root_slopes_requires c κs =
 
 linear_is : (c : tie.After-put_root_slopes)
     → let t = (rooted c.before).before in
-    c.put_root_slopes.new.0 ≡ tabulate symbols (λ i. root_slope (unit_root (x t).centre) (at (x t).linear-1 i))
+    c.put_root_slopes.new.out ≡ tabulate symbols (λ i. root_slope (unit_root (x t).centre) (at (x t).linear i))
 linear_is c = let o = rooted c.before in rw (z_is o, (long o.before).0) at c.put_root_slopes.ensures
 
 -- ---- the coefficients of the pairs
 abbrev slopes : tie.After-put_root_slopes-arg-4-1 → tie.After-put_root_slopes
-slopes c = c.before.before.before.before.before
+slopes c = c.before.before.before.before
 
 slice_aggregate_put_root_slopes_2 : tie.Need-slice_bounds-put_root_slopes-end-3
 slice_aggregate_put_root_slopes_2 c = search rules
@@ -75,7 +75,7 @@ put_root_slopes_requires_2 c κs =
     let o = rooted (slopes c).before in
     let t = o.before in
     let l = (long t).1 in (
-      (omega arith, ap (λ n. replicate n (pos 0)) (sym l), λ k h. get_or-eq_default (x t).pair-1 (pos 0) (omega arith)),
+      (omega arith, ap (λ n. replicate n (pos 0)) (sym l), λ k h. get_or-eq_default (x t).pair (pos 0) (omega arith)),
       ((z_size o).0, (z_size o).1, pair_within (x t) t.before.requires.2),
     )
 

@@ -59,11 +59,11 @@ lent c = rw (to_z-of_z w64 _ (made_fits c)) c.root_candidate-z.ensures
 
 measure_requires : tie.Need-measure-measured-requires
 measure_requires c κs =
-    let m = c.before.before.before.before in
+    let m = c.before.before.before in
     (made_pairs m, span_as (lent m) (span_root_candidate m.before.args.x (centre_some m.before) m.before.requires.2))
 
 abbrev from : tie.After-measure-measured → tie.After-root_candidate-z
-from c = c.before.before.before.before.before
+from c = c.before.before.before.before
 
 told : (c : tie.After-measure-measured) → c.measure-measured.result ≡ measured (wanted (from c).before)
 told c = c.measure-measured.ensures ∙ ap measured (lent (from c))
@@ -118,7 +118,7 @@ x_fits : (c : tie.Start) → SFits w64 c.args.x.centre
 x_fits c = search rules
 
 abbrev tested : tie.After-square_error-arg-4-1 → tie.Else-measured-lt0
-tested c = c.before.before.before.before.before.before.before
+tested c = c.before.before.before.before.before
 
 -- the candidate has no more linear coefficients than the operand
 none_made : (c : tie.After-root_candidate-z) → NoneFrom c.before.args.own (made c).linear

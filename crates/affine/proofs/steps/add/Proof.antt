@@ -38,7 +38,7 @@ slice_aggregate_put_sums c = search rules
 
 put_sums_requires : tie.Need-put_sums-requires
 put_sums_requires c κs =
-    let s = c.before.before.before.before.before.before.before in
+    let s = c.before.before.before.before.before in
     (((first_long s).0, (second_long s).0), (linear_within s.args.x s.requires.0, linear_within s.args.y s.requires.1))
 
 slice_aggregate_put_sums_2 : tie.Need-slice_bounds-put_sums-end-4
@@ -46,22 +46,22 @@ slice_aggregate_put_sums_2 c = search rules
 
 put_sums_requires_2 : tie.Need-put_sums-requires-2
 put_sums_requires_2 c κs =
-    let s = c.before.before.before.before.before.before.before.before.before.before.before.before.before.before.before.before in
+    let s = c.before.before.before.before.before.before.before.before.before.before.before.before in
     (((first_long s).1, (second_long s).1), (pair_within s.args.x s.requires.0, pair_within s.args.y s.requires.1))
 
 -- the row of the sums
 abbrev after_linear : tie.After-put_sums-2 → tie.After-put_sums
-after_linear c = c.before.before.before.before.before.before.before.before.before
+after_linear c = c.before.before.before.before.before.before.before
 
 abbrev start : tie.After-put_sums-2 → tie.Start
-start c = (after_linear c).before.before.before.before.before.before.before.before
+start c = (after_linear c).before.before.before.before.before.before
 
 add_t23 : tie.Need-overflow_add-sum
 add_t23 c = let s = start c.before.before.before in operation_fits ◌+ℤ◌ (first_fits s) (second_fits s) (sum_fits s)
 
 row_is : (c : tie.After-put_sums-2)
     → let g = (start c).args in
-    row_of_parts (to_z w64 (of_z w64 (to_z w64 (of_z w64 g.x.centre) +ℤ to_z w64 (of_z w64 g.y.centre)))) (after_linear c).put_sums.new.0 c.put_sums-2.new.0
+    row_of_parts (to_z w64 (of_z w64 (to_z w64 (of_z w64 g.x.centre) +ℤ to_z w64 (of_z w64 g.y.centre)))) (after_linear c).put_sums.new.out c.put_sums-2.new.out
     ≡ add_rows g.x g.y
 row_is c =
     let s = start c in

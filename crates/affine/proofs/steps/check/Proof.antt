@@ -18,10 +18,10 @@ pair_long : (c : tie.Start) → length c.args.row.pair ≡ pairs
 pair_long c = search rules
 
 measure_requires : tie.Need-measure-measured-requires
-measure_requires c κs = let s = c.before.before.before.before in (pair_long s, rw (to_z-of_z w64 _ (centre_fits s)) s.requires)
+measure_requires c κs = let s = c.before.before.before in (pair_long s, rw (to_z-of_z w64 _ (centre_fits s)) s.requires)
 
 abbrev start : tie.After-measure-measured → tie.Start
-start c = c.before.before.before.before.before
+start c = c.before.before.before.before
 
 told : (c : tie.After-measure-measured) → c.measure-measured.result ≡ measured (start c).args.row
 told c = rw (to_z-of_z w64 _ (centre_fits (start c))) at c.measure-measured.ensures
