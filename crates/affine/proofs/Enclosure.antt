@@ -18,7 +18,7 @@ use Rattle.integer.proofs.Bound.{Bound, bound_add, bound_minus, bound_cong, boun
 use Rattle.affine.specs.declared.Row.{Row}
 use Rattle.affine.specs.declared.Range.{Range}
 use Rattle.affine.specs.Limits.{symbols, paired, pairs, unit, unit_squared}
-use Rattle.affine.specs.Row.{span, low, high}
+use Rattle.affine.specs.Row.{span}
 use Rattle.affine.specs.Steps.{with_own, map_row}
 use Rattle.affine.specs.Product.{Rounding, product_rounding, totals, dropped, product_own, product_row}
 use Rattle.affine.specs.Reciprocal.{zero_in_range, distance, candidate_linear, candidate_pair, candidate, less_one, error_bound, reciprocal_own, reciprocal_row}

@@ -19,7 +19,6 @@ use Rattle.integer.proofs.Sum.{dot, dot_path}
 use Rattle.affine.specs.declared.Row.{Row}
 use Rattle.affine.specs.Limits.{symbols, paired, pairs, unit}
 use Rattle.affine.specs.Lists.{at, tabulate}
-use Rattle.affine.specs.Row.{low}
 use Rattle.affine.specs.Product.{linear_totals, pair_totals, totals}
 use Rattle.affine.specs.Root.{unit_root, root_candidate, missed, linear_misses, misses, square_error, root_own, root_row, starts_below_zero}
 use Rattle.affine.proofs.Lists.{tabulate_cong, tabulate_at}

@@ -27,16 +27,16 @@ absolutes_requires_2 : tie.Need-absolutes-requires-2
 absolutes_requires_2 c κs = let s = c.before.before.before in omega (arith, s.requires.1, span_is_sum (row s))
 
 -- the sum, which is the radius, and the span
-abbrev summed : tie.After-absolutes2 → tie.Start
+abbrev summed : tie.After-absolutes-2 → tie.Start
 summed c = c.before.before.before.before
 
-abbrev total : tie.After-absolutes2 → ℕ
-total c = c.before.before.absolutes.result + c.absolutes2.result
+abbrev total : tie.After-absolutes-2 → ℕ
+total c = c.before.before.absolutes.result + c.absolutes-2.result
 
-total_is : (c : tie.After-absolutes2) → total c ≡ sum_abs (summed c).args.l.now + sum_abs (summed c).args.p.now
-total_is c = ap₂ ◌+◌ c.before.before.absolutes.ensures c.absolutes2.ensures
+total_is : (c : tie.After-absolutes-2) → total c ≡ sum_abs (summed c).args.l.now + sum_abs (summed c).args.p.now
+total_is c = ap₂ ◌+◌ c.before.before.absolutes.ensures c.absolutes-2.ensures
 
-add_radius : tie.Need-overflow-add-radius
+add_radius : tie.Need-overflow_add-radius
 add_radius c = omega (arith, total_is c, (summed c).requires.1, span_is_sum (row (summed c)))
 
 absolute_requires : tie.Need-absolute-requires
@@ -51,48 +51,48 @@ centre_is c = c.absolute.ensures ∙ ap nat_abs (to_z-of_z w64 _ (start c).range
 span_is : (c : tie.After-absolute) → c.absolute.result + total c.before ≡ span (row (start c))
 span_is c = omega (arith, centre_is c, total_is c.before, span_is_sum (row (start c)))
 
-add_if1 : tie.Need-overflow-add-if1
+add_if1 : tie.Need-overflow_add-absolute
 add_if1 c = omega (arith, span_is c, (start c).requires.1)
 
-within : (c : tie.Then1) → span (row (start c.before)) ≤ span_limit
-within c = rw (span_is c.before) at c.if1.true
+within : (c : tie.Then-absolute-radius-le-SPAN_LIMIT) → span (row (start c.before)) ≤ span_limit
+within c = rw (span_is c.before) at c.if-absolute-radius-le-SPAN_LIMIT.true
 
-range_around_requires : tie.Need-range-around-requires
+range_around_requires : tie.Need-range_around-range-requires
 range_around_requires c κs =
     let a = c.before in
     let s = start a in
     let r = total_is a.before in
-    (s.pre.0, omega (arith, r), rw (to_z-of_z w64 _ s.fits.c) (omega (arith, within c, r, span_is_sum (row s))))
+    (s.requires.0, omega (arith, r), rw (to_z-of_z w64 _ s.ranges.c) (omega (arith, within c, r, span_is_sum (row s))))
 
 -- what the coefficients reach on each side, and the range
-linear_left : (c : tie.After-absolutes2) → total c - sum_abs (summed c).args.p.now ≡ sum_abs (summed c).args.l.now
+linear_left : (c : tie.After-absolutes-2) → total c - sum_abs (summed c).args.p.now ≡ sum_abs (summed c).args.l.now
 linear_left c = omega (arith, total_is c)
 
-range_is : (c : tie.After-range-around) → c.range-around.result ≡ form_range (row (start c.before.before))
+range_is : (c : tie.After-range_around-range) → c.range_around-range.result ≡ form_range (row (start c.before.before))
 unfolding low high
 range_is c =
     let a = c.before.before in
     let e = to_z-of_z w64 _ (start a).ranges.c in
     λ i. record {
-      low = (rw (e, linear_left a.before) at c.range-around.ensures.0) i;
-      high = (rw (e, linear_left a.before) at c.range-around.ensures.1) i;
+      low = (rw (e, linear_left a.before) at c.range_around-range.ensures.0) i;
+      high = (rw (e, linear_left a.before) at c.range_around-range.ensures.1) i;
     }
 
-radius_is : (c : tie.After-absolutes2) → total c ≡ radius (row (summed c))
+radius_is : (c : tie.After-absolutes-2) → total c ≡ radius (row (summed c))
 unfolding radius
 radius_is c = total_is c
 
-returns : tie.Need-returns
+returns : tie.Need-returns-then-absolute-radius-le-SPAN_LIMIT
 returns c =
     let a = c.before.before in
     let r = row (start a) in
     rw (le-leb (span r) span_limit (within c.before)) (λ i. record { within = true; radius = radius_is a.before i; range = range_is c i })
 
-returns_2 : tie.Need-returns-2
+returns_2 : tie.Need-returns-else-absolute-radius-le-SPAN_LIMIT
 returns_2 c =
     let a = c.before in
     let r = row (start a) in
-    rw (lt-leb (span r) span_limit (rw (span_is a) at c.if1.false), radius_is a.before)
+    rw (lt-leb (span r) span_limit (rw (span_is a) at c.if-absolute-radius-le-SPAN_LIMIT.false), radius_is a.before)
 
 pub measure_spec : {M : Type 1} → statement M
 measure_spec =

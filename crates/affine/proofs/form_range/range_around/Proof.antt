@@ -20,7 +20,7 @@ use Rattle.affine.proofs.form_range.range_around.Tie as tie
 abbrev pair : tie.Start → List ℤ
 pair s = s.args.p.now
 
-sum_squares_requires : tie.Need-sum-squares-requires
+sum_squares_requires : tie.Need-sum_squares-squares-requires
 sum_squares_requires c κs = (c.requires.0, omega (arith, c.requires.1, c.requires.2))
 
 -- what the coefficients reach above 0, or below it
@@ -47,40 +47,40 @@ high_fits s = fits_within _ span_limit (omega (arith, nat_abs_add s.args.c (pos 
 centre_is : (s : tie.Start) → to_z w64 (of_z w64 s.args.c) ≡ s.args.c
 centre_is s = to_z-of_z w64 _ s.ranges.c
 
-left_is : (c : tie.After-sum-squares) → c.before.args.radius - c.sum-squares.result.above ≡ reach false c.before
-left_is c = let s = c.before in omega (arith, c.sum-squares.ensures.0, s.requires.1, reach_and_squares false (pair s) s.requires.0)
+left_is : (c : tie.After-sum_squares-squares) → c.before.args.radius - c.sum_squares-squares.result.above ≡ reach false c.before
+left_is c = let s = c.before in omega (arith, c.sum_squares-squares.ensures.0, s.requires.1, reach_and_squares false (pair s) s.requires.0)
 
-below_is : (c : tie.After-sum-squares) → to_z w64 (c.before.args.radius - c.sum-squares.result.above) ≡ pos (reach false c.before)
+below_is : (c : tie.After-sum_squares-squares) → to_z w64 (c.before.args.radius - c.sum_squares-squares.result.above) ≡ pos (reach false c.before)
 below_is c = let s = c.before in rw (left_is c) (to_z-of_z w64 (pos (reach false s)) (reach_fits false s))
 
-sum_is : (c : tie.After-sum-squares) → to_z w64 (of_z w64 c.sum-squares.result.sum) ≡ balance (pair c.before)
-sum_is c = back_as c.sum-squares.ensures.1 (balance_fits c.before)
+sum_is : (c : tie.After-sum_squares-squares) → to_z w64 (of_z w64 c.sum_squares-squares.result.sum) ≡ balance (pair c.before)
+sum_is c = back_as c.sum_squares-squares.ensures.1 (balance_fits c.before)
 
 turned_over : (s : tie.Start) → pos (reach false s) +ℤ balance (pair s) ≡ pos (reach true s)
 turned_over s = below_to_above (s.args.radius - sum_abs (pair s)) (pair s) s.requires.0
 
-above_is : (c : tie.After-sum-squares)
-    → to_z w64 (of_z w64 (to_z w64 (c.before.args.radius - c.sum-squares.result.above) +ℤ to_z w64 (of_z w64 c.sum-squares.result.sum)))
+above_is : (c : tie.After-sum_squares-squares)
+    → to_z w64 (of_z w64 (to_z w64 (c.before.args.radius - c.sum_squares-squares.result.above) +ℤ to_z w64 (of_z w64 c.sum_squares-squares.result.sum)))
     ≡ pos (reach true c.before)
 above_is c = let s = c.before in rw (below_is c, sum_is c, turned_over s) (to_z-of_z w64 (pos (reach true s)) (reach_fits true s))
 
-sub_below : tie.Need-overflow-sub-below
+sub_below : tie.Need-overflow_sub-below
 sub_below c =
     let s = c.before.before in
-    omega (arith, c.before.sum-squares.ensures.0, s.requires.1, reach_and_squares false (pair s) s.requires.0)
+    omega (arith, c.before.sum_squares-squares.ensures.0, s.requires.1, reach_and_squares false (pair s) s.requires.0)
 
-cast_below : tie.Need-overflow-cast-below
+cast_below : tie.Need-overflow_cast-below
 cast_below c = rw (left_is c.before) (reach_fits false c.before.before)
 
-sub_t7 : tie.Need-overflow-sub-t7
+sub_t7 : tie.Need-overflow_sub-result
 sub_t7 c = let s = c.before.before in rw (centre_is s, below_is c.before) (low_fits s)
 
-add_t8 : tie.Need-overflow-add-t8
+add_t8 : tie.Need-overflow_add-result
 add_t8 c =
     let m = c.before.before.before in
     rw (below_is m, sum_is m, turned_over m.before) (reach_fits true m.before)
 
-add_t9 : tie.Need-overflow-add-t9
+add_t9 : tie.Need-overflow_add-result-2
 add_t9 c = let m = c.before.before.before in rw (centre_is m.before, above_is m) (high_fits m.before)
 
 returns : tie.Need-returns

@@ -12,13 +12,13 @@ fits c =
     let p = c.requires in
     two_products span_limit span_limit g.c g.b g.d g.a (omega arith) p.0 p.1 p.2 p.3
 
-mul_result : tie.Need-overflow-mul-result
+mul_result : tie.Need-overflow_mul-result
 mul_result c = let w = fits c in search rules
 
-mul_result_2 : tie.Need-overflow-mul-result-2
+mul_result_2 : tie.Need-overflow_mul-result-2
 mul_result_2 c = let w = fits c in search rules
 
-add_result : tie.Need-overflow-add-result
+add_result : tie.Need-overflow_add-result
 add_result c = let w = fits c in search rules
 
 returns : tie.Need-returns

@@ -27,51 +27,51 @@ use Rattle.affine.proofs.product.multiply.Statement.{statement}
 use Rattle.affine.proofs.product.multiply.Tie as tie
 
 -- ---- the centre's total
-x_fits : (c : tie.Start) → SFits w64 c.args.t1.centre
+x_fits : (c : tie.Start) → SFits w64 c.args.x.centre
 x_fits c = search rules
 
-y_fits : (c : tie.Start) → SFits w64 c.args.t3.centre
+y_fits : (c : tie.Start) → SFits w64 c.args.y.centre
 y_fits c = search rules
 
 abbrev centre : tie.Start → ℤ
-centre c = c.args.t1.centre *ℤ c.args.t3.centre
+centre c = c.args.x.centre *ℤ c.args.y.centre
 
 total_fits : (c : tie.Start) → SFits w64 (centre c)
 total_fits c =
-    fits_within (centre c) (span_limit * span_limit) (centre_product_within 0 c.args.t1 c.args.t3 c.requires.0.2 c.requires.0.3) (omega arith)
+    fits_within (centre c) (span_limit * span_limit) (centre_product_within 0 c.args.x c.args.y c.requires.0.2 c.requires.0.3) (omega arith)
 
 total_is : (c : tie.Start)
-    → to_z w64 (of_z w64 (to_z w64 (of_z w64 c.args.t1.centre) *ℤ to_z w64 (of_z w64 c.args.t3.centre))) ≡ centre c
+    → to_z w64 (of_z w64 (to_z w64 (of_z w64 c.args.x.centre) *ℤ to_z w64 (of_z w64 c.args.y.centre))) ≡ centre c
 total_is c = operation_gives ◌*ℤ◌ (x_fits c) (y_fits c) (total_fits c)
 
-mul_t : tie.Need-overflow-mul-t
+mul_t : tie.Need-overflow_mul-t
 mul_t c = let s = c.before.before in operation_fits ◌*ℤ◌ (x_fits s) (y_fits s) (total_fits s)
 
-nearest_remainder_4096_requires : tie.Need-nearest-remainder-4096-requires
+nearest_remainder_4096_requires : tie.Need-nearest_remainder_4096-requires
 nearest_remainder_4096_requires c κs = search rules
 
 -- ---- the parts of both rows, as they are lent
-x_is : (c : tie.Start) → to_z w64 (of_z w64 c.args.t1.centre) ≡ c.args.t1.centre
+x_is : (c : tie.Start) → to_z w64 (of_z w64 c.args.x.centre) ≡ c.args.x.centre
 x_is c = to_z-of_z w64 _ (x_fits c)
 
-y_is : (c : tie.Start) → to_z w64 (of_z w64 c.args.t3.centre) ≡ c.args.t3.centre
+y_is : (c : tie.Start) → to_z w64 (of_z w64 c.args.y.centre) ≡ c.args.y.centre
 y_is c = to_z-of_z w64 _ (y_fits c)
 
-x_long : (c : tie.Start) → length c.args.t1.linear ≡ symbols
+x_long : (c : tie.Start) → length c.args.x.linear ≡ symbols
 x_long c = search rules
 
-y_long : (c : tie.Start) → length c.args.t3.linear ≡ symbols
+y_long : (c : tie.Start) → length c.args.y.linear ≡ symbols
 y_long c = search rules
 
 -- ---- the symbols
-slice_aggregate_put_linear : tie.Need-slice-aggregate-put-linear
+slice_aggregate_put_linear : tie.Need-slice_bounds-put_linear-end
 slice_aggregate_put_linear c = search rules
 
-put_linear_requires : tie.Need-put-linear-requires
+put_linear_requires : tie.Need-put_linear-requires
 put_linear_requires c κs =
-    let s = c.before.before.before.before.before.before.before.before in
-    let x = s.args.t1 in
-    let y = s.args.t3 in
+    let s = c.before.before.before.before.before.before in
+    let x = s.args.x in
+    let y = s.args.y in
     let hx = s.requires.0.2 in
     let hy = s.requires.0.3 in
     rw (x_is s, y_is s) (
@@ -80,31 +80,31 @@ put_linear_requires c κs =
     )
 
 abbrev Symbols : Type 0
-Symbols = tie.After-linear2
+Symbols = tie.After-linear-2-1
 
-abbrev centred : Symbols → tie.After-nearest-remainder-4096
-centred c = c.before.before.before.before.before.before.before
+abbrev centred : Symbols → tie.After-nearest_remainder_4096
+centred c = c.before.before.before.before.before
 
 abbrev from : Symbols → tie.Start
 from c = (centred c).before.before.before
 
-centre_left : (c : Symbols) → (centred c).nearest-remainder-4096.result ≡ nat_abs (product_rounding.remainder (centre (from c)))
-centre_left c = (centred c).nearest-remainder-4096.ensures ∙ ap (λ t. nat_abs (product_rounding.remainder t)) (total_is (from c))
+centre_left : (c : Symbols) → (centred c).nearest_remainder_4096.result ≡ nat_abs (product_rounding.remainder (centre (from c)))
+centre_left c = (centred c).nearest_remainder_4096.ensures ∙ ap (λ t. nat_abs (product_rounding.remainder t)) (total_is (from c))
 
-linear_is : (c : Symbols) → c.before.put-linear.new.0 ≡ quotients (linear_totals (from c).args.t1 (from c).args.t3)
+linear_is : (c : Symbols) → c.before.put_linear.new.out ≡ quotients (linear_totals (from c).args.x (from c).args.y)
 linear_is c =
     let s = from c in
-    c.before.put-linear.ensures.0 ∙ ap quotients (linear_totals_of_parts s.args.t1 s.args.t3 (x_is s) (y_is s))
+    c.before.put_linear.ensures.0 ∙ ap quotients (linear_totals_of_parts s.args.x s.args.y (x_is s) (y_is s))
 
-linear_left : (c : Symbols) → c.before.put-linear.result ≡ sum_abs (remainders (linear_totals (from c).args.t1 (from c).args.t3))
+linear_left : (c : Symbols) → c.before.put_linear.result ≡ sum_abs (remainders (linear_totals (from c).args.x (from c).args.y))
 linear_left c =
     let s = from c in
-    c.before.put-linear.ensures.1 ∙ ap (λ t. sum_abs (remainders t)) (linear_totals_of_parts s.args.t1 s.args.t3 (x_is s) (y_is s))
+    c.before.put_linear.ensures.1 ∙ ap (λ t. sum_abs (remainders t)) (linear_totals_of_parts s.args.x s.args.y (x_is s) (y_is s))
 
-add_remainders : tie.Need-overflow-add-remainders
+add_remainders : tie.Need-overflow_add-remainders
 add_remainders c =
-    let x = (from c).args.t1 in
-    let y = (from c).args.t3 in
+    let x = (from c).args.x in
+    let y = (from c).args.y in
     omega (
       arith,
       centre_left c,
@@ -115,120 +115,120 @@ add_remainders c =
     )
 
 -- ---- the pairs
-slice_aggregate_put_pairs : tie.Need-slice-aggregate-put-pairs
+slice_aggregate_put_pairs : tie.Need-slice_bounds-put_pairs-end
 slice_aggregate_put_pairs c = search rules
 
-put_pairs_requires : tie.Need-put-pairs-requires
+put_pairs_requires : tie.Need-put_pairs-requires
 put_pairs_requires c κs =
-    let s = from c.before.before.before.before.before.before.before in
-    rw (x_is s, y_is s) ((s.pre.0.0, refl), (s.pre.0.2, s.pre.0.3))
+    let s = from c.before.before.before.before.before in
+    rw (x_is s, y_is s) ((s.requires.0.0, refl), (s.requires.0.2, s.requires.0.3))
 
 abbrev Pairs : Type 0
-Pairs = tie.After-pair2
+Pairs = tie.After-pair-2-1
 
 abbrev singles : Pairs → Symbols
-singles c = c.before.before.before.before.before.before.before.before.before
+singles c = c.before.before.before.before.before.before.before
 
 abbrev origin : Pairs → tie.Start
 origin c = from (singles c)
 
 totals_are : (c : Pairs)
     → let g = (origin c).args in
-    pair_totals g.squares (row_of_parts (to_z w64 (of_z w64 g.t1.centre)) g.t1.linear g.t1.pair) (row_of_parts (to_z w64 (of_z w64 g.t3.centre)) g.t3.linear g.t3.pair)
-    ≡ pair_totals g.squares g.t1 g.t3
-totals_are c = let s = origin c in pair_totals_of_parts s.args.t1 s.args.t3 (x_is s) (y_is s) s.args.squares
+    pair_totals g.squares (row_of_parts (to_z w64 (of_z w64 g.x.centre)) g.x.linear g.x.pair) (row_of_parts (to_z w64 (of_z w64 g.y.centre)) g.y.linear g.y.pair)
+    ≡ pair_totals g.squares g.x g.y
+totals_are c = let s = origin c in pair_totals_of_parts s.args.x s.args.y (x_is s) (y_is s) s.args.squares
 
-pair_is : (c : Pairs) → c.before.put-pairs.new.0 ≡ quotients (pair_totals (origin c).args.squares (origin c).args.t1 (origin c).args.t3)
-pair_is c = c.before.put-pairs.ensures.0 ∙ ap quotients (totals_are c)
+pair_is : (c : Pairs) → c.before.put_pairs.new.out ≡ quotients (pair_totals (origin c).args.squares (origin c).args.x (origin c).args.y)
+pair_is c = c.before.put_pairs.ensures.0 ∙ ap quotients (totals_are c)
 
 remainders_is : (c : Pairs)
-    → (centred (singles c)).nearest-remainder-4096.result + (singles c).before.put-linear.result + c.before.put-pairs.result
-    ≡ all_remainders (origin c).args.squares (origin c).args.t1 (origin c).args.t3
+    → (centred (singles c)).nearest_remainder_4096.result + (singles c).before.put_linear.result + c.before.put_pairs.result
+    ≡ all_remainders (origin c).args.squares (origin c).args.x (origin c).args.y
 remainders_is c =
     let s = origin c in
     ap₂ ◌+◌ (ap₂ ◌+◌ (centre_left (singles c)) (linear_left (singles c)))
-    (c.before.put-pairs.ensures.1 ∙ ap (λ t. sum_abs (remainders t)) (totals_are c))
-    ∙ remainders_are_sum s.args.squares s.args.t1 s.args.t3
+    (c.before.put_pairs.ensures.1 ∙ ap (λ t. sum_abs (remainders t)) (totals_are c))
+    ∙ remainders_are_sum s.args.squares s.args.x s.args.y
 
 -- ---- the error
 abbrev error : tie.Start → ℕ
-error c = dropped c.args.squares c.args.t1 c.args.t3 + all_remainders c.args.squares c.args.t1 c.args.t3
+error c = dropped c.args.squares c.args.x c.args.y + all_remainders c.args.squares c.args.x c.args.y
 
 within : (c : tie.Start) → error c ≤ span_limit * span_limit + unit * (1 + symbols + pairs)
-within c = error_within c.args.squares c.args.t1 c.args.t3 c.requires.0.2 c.requires.0.3
+within c = error_within c.args.squares c.args.x c.args.y c.requires.0.2 c.requires.0.3
 
-add_remainders_2 : tie.Need-overflow-add-remainders-2
+add_remainders_2 : tie.Need-overflow_add-remainders-2
 add_remainders_2 c = omega (arith, remainders_is c, within (origin c))
 
-dropped_part_requires : tie.Need-dropped-part-requires
+dropped_part_requires : tie.Need-dropped_part-requires
 dropped_part_requires c κs =
-    let s = origin c.before.before.before.before in
-    let x = s.args.t1 in
-    let y = s.args.t3 in (
-      s.pre.0.0,
+    let s = origin c.before.before in
+    let x = s.args.x in
+    let y = s.args.y in (
+      s.requires.0.0,
       (
-        (x_long s, omega (arith, s.pre.1.0, linear_within_radius x), omega (arith, s.pre.1.0, radius_within x s.pre.0.2)),
-        (y_long s, omega (arith, s.pre.1.1, linear_within_radius y), omega (arith, s.pre.1.1, radius_within y s.pre.0.3)),
+        (x_long s, omega (arith, s.requires.1.0, linear_within_radius x), omega (arith, s.requires.1.0, radius_within x s.requires.0.2)),
+        (y_long s, omega (arith, s.requires.1.1, linear_within_radius y), omega (arith, s.requires.1.1, radius_within y s.requires.0.3)),
       ),
     )
 
-abbrev paired : tie.After-dropped-part → Pairs
-paired c = c.before.before.before.before.before
+abbrev paired : tie.After-dropped_part → Pairs
+paired c = c.before.before.before
 
-dropped_is : (c : tie.After-dropped-part)
+dropped_is : (c : tie.After-dropped_part)
     → let g = (origin (paired c)).args in
-    c.dropped-part.result ≡ dropped g.squares g.t1 g.t3
-dropped_is c = let s = origin (paired c) in c.dropped-part.ensures ∙ dropped_of_radii s.args.squares s.args.t1 s.args.t3 s.pre.1.0 s.pre.1.1
+    c.dropped_part.result ≡ dropped g.squares g.x g.y
+dropped_is c = let s = origin (paired c) in c.dropped_part.ensures ∙ dropped_of_radii s.args.squares s.args.x s.args.y s.requires.1.0 s.requires.1.1
 
-add_error : tie.Need-overflow-add-error
+add_error : tie.Need-overflow_add-error
 add_error c = let d = paired c in omega (arith, remainders_is d, dropped_is c, within (origin d))
 
-ceiling_quotient_requires : tie.Need-ceiling-quotient-requires
+ceiling_quotient_requires : tie.Need-ceiling_quotient-requires
 ceiling_quotient_requires c κs = search rules
 
-cast_linear : tie.Need-overflow-cast-linear
+cast_linear : tie.Need-overflow_cast-linear
 cast_linear c = search rules
 
-nearest_quotient_4096_requires : tie.Need-nearest-quotient-4096-requires
+nearest_quotient_4096_requires : tie.Need-nearest_quotient_4096-requires
 nearest_quotient_4096_requires c κs = search rules
 
 -- ---- the three parts of the row
-abbrev own_start : tie.After-ceiling-quotient → tie.Start
+abbrev own_start : tie.After-ceiling_quotient → tie.Start
 own_start c = origin (paired c.before)
 
-mul_linear : tie.Need-overflow-mul-linear
+mul_linear : tie.Need-offset_bounds-linear-own
 mul_linear c = omega (arith, (own_start c).requires.0.1)
 
-array_set_from_linear : tie.Need-array-set-from-linear
+array_set_from_linear : tie.Need-bounds-linear-own
 array_set_from_linear c = (own_start c).requires.0.1
 
-own_is : (c : tie.After-ceiling-quotient) → c.ceiling-quotient.result ≡ ceiling_quotient (error (own_start c)) unit
+own_is : (c : tie.After-ceiling_quotient) → c.ceiling_quotient.result ≡ ceiling_quotient (error (own_start c)) unit
 own_is c =
     let d = c.before in
-    c.ceiling-quotient.ensures ∙ ap (λ n. ceiling_quotient n unit) (ap₂ ◌+◌ (dropped_is d) (remainders_is (paired d)))
+    c.ceiling_quotient.ensures ∙ ap (λ n. ceiling_quotient n unit) (ap₂ ◌+◌ (dropped_is d) (remainders_is (paired d)))
 
-own_small : (c : tie.After-ceiling-quotient) → c.ceiling-quotient.result < 2 ^ 63
+own_small : (c : tie.After-ceiling_quotient) → c.ceiling_quotient.result < 2 ^ 63
 own_small c = omega (arith, own_is c, within (own_start c))
 
-row_is : (c : tie.After-nearest-quotient-4096)
+row_is : (c : tie.After-nearest_quotient_4096)
     → let p = paired c.before.before in
     let g = (origin p).args in
-    row_of_parts (to_z w64 (of_z w64 c.nearest-quotient-4096.result)) (set (singles p).before.put-linear.last.0 g.own (to_z w64 c.before.ceiling-quotient.result))
-    p.before.put-pairs.last.0
-    ≡ product_row g.squares g.own g.t1 g.t3
+    row_of_parts (to_z w64 (of_z w64 c.nearest_quotient_4096.result)) (set (singles p).before.put_linear.new.out g.own (to_z w64 c.before.ceiling_quotient.result))
+    p.before.put_pairs.new.out
+    ≡ product_row g.squares g.own g.x g.y
 unfolding product_own product_row
 row_is c =
     let q = c.before in
     let p = paired q.before in
     let s = origin p in
-    let centre_is = back c.nearest-quotient-4096.type-inv ∙ (rw (total_is s) at c.nearest-quotient-4096.ensures) in
-    let own = to_z_pos w64 q.ceiling-quotient.result (own_small q) ∙ ap pos (own_is q) in
+    let centre_is = back c.nearest_quotient_4096.type_inv ∙ (rw (total_is s) at c.nearest_quotient_4096.ensures) in
+    let own = to_z_pos w64 q.ceiling_quotient.result (own_small q) ∙ ap pos (own_is q) in
     λ i. record { centre = centre_is i; linear = set (linear_is (singles p) i) s.args.own (own i); pair = pair_is p i }
 
 check_requires : tie.Need-check-requires
 check_requires c κs =
     let s = origin (paired c.before.before) in
-    span_as (row_is c) (omega (arith, span_product s.args.squares s.args.own s.args.t1 s.args.t3 s.pre.0.2 s.pre.0.3))
+    span_as (row_is c) (omega (arith, span_product s.args.squares s.args.own s.args.x s.args.y s.requires.0.2 s.requires.0.3))
 
 returns : tie.Need-returns
 returns c = c.check.ensures ∙ ap checked (row_is c.before)

@@ -26,21 +26,21 @@ x c = row_of_parts c.args.c c.args.a.now c.args.p.now
 abbrev y : tie.Start → Row
 y c = row_of_parts c.args.d c.args.b.now c.args.q.now
 
-mul_pk : tie.Need-overflow-mul-pk
+mul_pk : tie.Need-offset_bounds-p-k
 mul_pk c = search rules
 
-element_copy_out_pk : tie.Need-element-copy-out-pk
+element_copy_out_pk : tie.Need-bounds-p-k
 element_copy_out_pk c = search rules
 
-mul_qk : tie.Need-overflow-mul-qk
+mul_qk : tie.Need-offset_bounds-q-k
 mul_qk c = search rules
 
-element_copy_out_qk : tie.Need-element-copy-out-qk
+element_copy_out_qk : tie.Need-bounds-q-k
 element_copy_out_qk c = search rules
 
 -- ---- the numbers of the crosswise part, as they are read
 abbrev Read : Type 0
-Read = tie.After-qk
+Read = tie.After-qk-1
 
 abbrev start : Read → tie.Start
 start c = c.before.before
@@ -52,15 +52,15 @@ d_is : (c : tie.Start) → to_z w64 (of_z w64 c.args.d) ≡ c.args.d
 d_is c = to_z-of_z w64 _ c.ranges.d
 
 pk_is : (c : Read) → to_z w64 (of_z w64 (at (x (start c)).pair (start c).args.k)) ≡ at (x (start c)).pair (start c).args.k
-pk_is c = back c.before.pk.given
+pk_is c = back c.before.pk-1.given
 
 qk_is : (c : Read) → to_z w64 (of_z w64 (at (y (start c)).pair (start c).args.k)) ≡ at (y (start c)).pair (start c).args.k
-qk_is c = back c.qk.given
+qk_is c = back c.qk-1.given
 
-crosswise_total_requires : tie.Need-crosswise-total-requires
+crosswise_total_requires : tie.Need-crosswise_total-requires
 crosswise_total_requires c κs =
     let s = start c in
-    let h = s.pre.1 in
+    let h = s.requires.1 in
     rw (c_is s, d_is s, pk_is c, qk_is c)
     (centre_within (x s) h.0, pair_at_within (y s) h.1 s.args.k, centre_within (y s) h.1, pair_at_within (x s) h.0 s.args.k)
 
@@ -71,10 +71,10 @@ i_small c = omega (arith, c.requires.0.1, first_below c.args.k)
 j_small : (c : tie.Start) → c.args.j < symbols
 j_small c = omega (arith, c.requires.0.2, second_below c.args.k)
 
-meeting_at_requires : tie.Need-meeting-at-requires
+meeting_at_requires : tie.Need-meeting_at-requires
 meeting_at_requires c κs =
     let s = start c.before in
-    let h = s.pre.1 in
+    let h = s.requires.1 in
     ((i_small s, j_small s), (linear_at_within (x s) h.0, linear_at_within (y s) h.1))
 
 -- ---- the two parts, and their sum
@@ -95,23 +95,23 @@ sum_fits c =
     let m = meeting_within (x c).linear (y c).linear (omega arith) (linear_at_within (x c) hx) (linear_at_within (y c) hy) g.i g.j in
     fits_within (crossed c +ℤ met c) (4 * (span_limit * span_limit)) (nat_abs_add_within (crossed c) (met c) w.both m) (omega arith)
 
-sum_is : (c : tie.After-meeting-at)
+sum_is : (c : tie.After-meeting_at)
     → let s = start c.before.before in
-    to_z w64 (of_z w64 c.before.crosswise-total.result) +ℤ to_z w64 (of_z w64 c.meeting-at.result) ≡ crossed s +ℤ met s
+    to_z w64 (of_z w64 c.before.crosswise_total.result) +ℤ to_z w64 (of_z w64 c.meeting_at.result) ≡ crossed s +ℤ met s
 sum_is c =
     let r = c.before.before in
     let s = start r in
     ap₂ ◌+ℤ◌
-    (back c.before.crosswise-total.type-inv ∙ (rw (c_is s, d_is s, pk_is r, qk_is r) at c.before.crosswise-total.ensures))
-    (back c.meeting-at.type-inv ∙ c.meeting-at.ensures)
+    (back c.before.crosswise_total.type_inv ∙ (rw (c_is s, d_is s, pk_is r, qk_is r) at c.before.crosswise_total.ensures))
+    (back c.meeting_at.type_inv ∙ c.meeting_at.ensures)
 
-add_result : tie.Need-overflow-add-result
+add_result : tie.Need-overflow_add-result
 add_result c = rw (sum_is c) (sum_fits (start c.before.before))
 
 returns : tie.Need-returns
 returns c =
     let s = start c.before.before in
-    rw (s.pre.0.1, s.pre.0.2) (back_as (sum_is c) (sum_fits s))
+    rw (s.requires.0.1, s.requires.0.2) (back_as (sum_is c) (sum_fits s))
 
 pub pair_total_spec : {M : Type 1} → statement M
 pair_total_spec =

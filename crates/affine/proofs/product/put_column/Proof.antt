@@ -27,13 +27,13 @@ use Rattle.affine.proofs.product.put_column.Tie as tie
 abbrev of : (ℤ → ℤ) → Row → Row → ℕ → ℕ → List ℤ
 of h x y j i = column (λ k. h (pair_total x y k)) j i
 
-abbrev invariant_loop : tie.invariant-loop
+abbrev invariant_loop : tie.invariant-loop-i
 invariant_loop out₀ remainders c a p d b q j sum₀ i₀ k₀ out sum i k =
     let x = row_of_parts (to_z w64 c) a p in
     let y = row_of_parts (to_z w64 d) b q in
     AtPair j i k × (out ≡ of product_rounding.quotient x y j i) × (sum ≡ sum_abs (of product_rounding.remainder x y j i))
 
-abbrev decreases_loop : tie.decreases-loop
+abbrev decreases_loop : tie.decreases-loop-i
 decreases_loop out₀ remainders c a p d b q j sum₀ i₀ k₀ out sum i k = suc j - i
 
 abbrev Start : Type 0
@@ -49,7 +49,7 @@ whole : (c : Start) (h : ℤ → ℤ) → h (pos 0) ≡ pos 0 → (squares : ℕ
 whole c h z squares =
     ap (map h) (sym (read_as_given (lent c) (pair_totals squares))) ∙ map_pair_totals h (read_x (lent c)) (read_y (lent c)) z squares
 
-loop_holds : tie.Need-loop-init invariant_loop decreases_loop
+loop_holds : tie.Need-loop-i-init invariant_loop decreases_loop
 loop_holds c =
     let j = c.args.j in (
       at_first j,
@@ -59,39 +59,39 @@ loop_holds c =
 
 -- ---- a turn
 abbrev Turn : Type 0
-Turn = tie.In-loop invariant_loop decreases_loop
+Turn = tie.In-loop-i invariant_loop decreases_loop
 
 abbrev start : Turn → Start
 start c = c.before.before
 
-place : (c : Turn) → AtPair (start c).args.j c.before.loop.i c.before.loop.k
-place c = c.before.loop.invariant.0
+place : (c : Turn) → AtPair (start c).args.j c.before.loop-i.i c.before.loop-i.k
+place c = c.before.loop-i.invariant.0
 
 column_small : (c : Turn) → (start c).args.j < paired
 column_small c = (start c).requires.0.0
 
-pair_total_requires : tie.Need-pair-total-requires invariant_loop decreases_loop
+pair_total_requires : tie.Need-pair_total-t-requires invariant_loop decreases_loop
 pair_total_requires c κs =
     let s = start c in
-    (at_symbols (column_small c) c.loop-test.true (place c), (read_x_within (lent s) s.pre.0.1, read_y_within (lent s) s.pre.0.2))
+    (at_symbols (column_small c) c.loop-i-test.true (place c), (read_x_within (lent s) s.requires.0.1, read_y_within (lent s) s.requires.0.2))
 
-total_is : (c : tie.After-pair-total invariant_loop decreases_loop)
+total_is : (c : tie.After-pair_total-t invariant_loop decreases_loop)
     → let t = c.before in
-    to_z w64 (of_z w64 c.pair-total.result) ≡ pair_total (read_x (lent (start t))) (read_y (lent (start t))) t.before.loop.k
-total_is c = back c.pair-total.type-inv ∙ c.pair-total.ensures
+    to_z w64 (of_z w64 c.pair_total-t.result) ≡ pair_total (read_x (lent (start t))) (read_y (lent (start t))) t.before.loop-i.k
+total_is c = back c.pair_total-t.type_inv ∙ c.pair_total-t.ensures
 
-put_quotient_requires : tie.Need-put-quotient-requires invariant_loop decreases_loop
+put_quotient_requires : tie.Need-put_quotient-sum-requires invariant_loop decreases_loop
 put_quotient_requires c κs =
     let t = c.before.before in
-    let out_is = t.before.loop.invariant.1 in
+    let out_is = t.before.loop-i.invariant.1 in
     rw out_is
-    (rw (length_column _ (start t).args.j) (at_symbols (column_small t) t.loop-test.true (place t)).0, column_zero _ (column_small t) t.loop-test.true (place t))
+    (rw (length_column _ (start t).args.j) (at_symbols (column_small t) t.loop-i-test.true (place t)).0, column_zero _ (column_small t) t.loop-i-test.true (place t))
 
 -- ---- what the turn leaves
 abbrev Once : Type 0
-Once = tie.After-out invariant_loop decreases_loop
+Once = tie.After-out-1 invariant_loop decreases_loop
 
-abbrev totalled : Once → tie.After-pair-total invariant_loop decreases_loop
+abbrev totalled : Once → tie.After-pair_total-t invariant_loop decreases_loop
 totalled c = c.before.before.before
 
 abbrev turn : Once → Turn
@@ -99,12 +99,12 @@ turn c = (totalled c).before
 
 sum_is : (c : Once)
     → let t = turn c in
-    t.before.loop.sum + c.before.put-quotient.result
-    ≡ sum_abs (of product_rounding.remainder (read_x (lent (start t))) (read_y (lent (start t))) (start t).args.j (t.before.loop.i + 1))
+    t.before.loop-i.sum + c.before.put_quotient-sum.result
+    ≡ sum_abs (of product_rounding.remainder (read_x (lent (start t))) (read_y (lent (start t))) (start t).args.j (t.before.loop-i.i + 1))
 sum_is c =
     let t = turn c in
-    ap₂ ◌+◌ t.before.loop.inv.2 (rw (total_is (totalled c)) at c.before.put-quotient.ensures.1)
-    ∙ sym (column_sum_more _ (column_small t) t.loop-test.taken (place t))
+    ap₂ ◌+◌ t.before.loop-i.invariant.2 (rw (total_is (totalled c)) at c.before.put_quotient-sum.ensures.1)
+    ∙ sym (column_sum_more _ (column_small t) t.loop-i-test.true (place t))
 
 all_small : (c : Start) (i : ℕ) → i ≤ suc c.args.j → sum_abs (of product_rounding.remainder (read_x (lent c)) (read_y (lent c)) c.args.j i) ≤ unit * pairs
 all_small c i h =
@@ -113,49 +113,49 @@ all_small c i h =
     let all = ap sum_abs (whole c product_rounding.remainder remainder_zero (suc j)) in
     omega (arith, bounded, all, remainders_within (pair_totals (suc j) (given_x (lent c)) (given_y (lent c))), length_pair_totals (suc j) (given_x (lent c)) (given_y (lent c)))
 
-add_sum : tie.Need-overflow-add-sum invariant_loop decreases_loop
-add_sum c = let t = turn c in omega (arith, sum_is c, all_small (start t) (t.before.loop.i + 1) (omega (arith, t.loop-test.taken)))
+add_sum : tie.Need-overflow_add-sum invariant_loop decreases_loop
+add_sum c = let t = turn c in omega (arith, sum_is c, all_small (start t) (t.before.loop-i.i + 1) (omega (arith, t.loop-i-test.true)))
 
-sub_k : tie.Need-overflow-sub-k invariant_loop decreases_loop
+sub_k : tie.Need-overflow_sub-k invariant_loop decreases_loop
 sub_k c = search rules
 
-sub_k_2 : tie.Need-overflow-sub-k-2 invariant_loop decreases_loop
-sub_k_2 c = let t = turn c in omega (arith, column_small t, t.loop-test.taken)
+sub_k_2 : tie.Need-overflow_sub-k-in-loop-i invariant_loop decreases_loop
+sub_k_2 c = let t = turn c in omega (arith, column_small t, t.loop-i-test.true)
 
-add_k : tie.Need-overflow-add-k invariant_loop decreases_loop
-add_k c = let t = turn c in omega (arith, (at_symbols (column_small t) t.loop-test.taken (place t)).0)
+add_k : tie.Need-overflow_add-k invariant_loop decreases_loop
+add_k c = let t = turn c in omega (arith, (at_symbols (column_small t) t.loop-i-test.true (place t)).0)
 
-add_i : tie.Need-overflow-add-i invariant_loop decreases_loop
-add_i c = let t = turn c in omega (arith, column_small t, t.loop-test.taken)
+add_i : tie.Need-overflow_add-i invariant_loop decreases_loop
+add_i c = let t = turn c in omega (arith, column_small t, t.loop-i-test.true)
 
-loop_less : tie.Need-loop-smaller invariant_loop decreases_loop
+loop_less : tie.Need-loop-i-smaller invariant_loop decreases_loop
 loop_less c = search rules
 
-loop_again : tie.Need-loop-preserved invariant_loop decreases_loop
+loop_again : tie.Need-loop-i-preserved invariant_loop decreases_loop
 loop_again c =
     let t = turn c in (
-      at_next (column_small t) t.loop-test.taken (place t),
-      c.before.put-quotient.ensures.0
-          ∙ ap₂ (λ l v. set l t.before.loop.k (product_rounding.quotient v)) t.before.loop.inv.1 (total_is (totalled c))
-          ∙ column_more _ (column_small t) t.loop-test.taken (place t),
+      at_next (column_small t) t.loop-i-test.true (place t),
+      c.before.put_quotient-sum.ensures.0
+          ∙ ap₂ (λ l v. set l t.before.loop-i.k (product_rounding.quotient v)) t.before.loop-i.invariant.1 (total_is (totalled c))
+          ∙ column_more _ (column_small t) t.loop-i-test.true (place t),
       sum_is c,
     )
 
-same_length : tie.Need-same-length invariant_loop decreases_loop
+same_length : tie.Need-shape_of-out invariant_loop decreases_loop
 same_length c =
     let l = c.before in
     let s = l.before in
-    ap length l.loop.invariant.1 ∙ length_column _ s.args.j l.loop.i
+    ap length l.loop-i.invariant.1 ∙ length_column _ s.args.j l.loop-i.i
     ∙ sym (ap length s.requires.1.0 ∙ length-map (pair_totals s.args.j (given_x (lent s)) (given_y (lent s))) _ ∙ length_pair_totals s.args.j (given_x (lent s)) (given_y (lent s)))
 
 returns : tie.Need-returns invariant_loop decreases_loop
 returns c =
     let l = c.before in
     let s = l.before in
-    let inv = l.loop.invariant in
+    let inv = l.loop-i.invariant in
     let j = s.args.j in (
-      inv.1 ∙ column_all _ inv.0 c.loop-test.false ∙ sym (whole s product_rounding.quotient quotient_zero (suc j)),
-      inv.2 ∙ ap sum_abs (column_all _ inv.0 c.loop-test.false ∙ sym (whole s product_rounding.remainder remainder_zero (suc j))),
+      inv.1 ∙ column_all _ inv.0 c.loop-i-test.false ∙ sym (whole s product_rounding.quotient quotient_zero (suc j)),
+      inv.2 ∙ ap sum_abs (column_all _ inv.0 c.loop-i-test.false ∙ sym (whole s product_rounding.remainder remainder_zero (suc j))),
     )
 
 pub put_column_spec : {M : Type 1} → statement M

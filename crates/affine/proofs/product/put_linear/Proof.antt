@@ -26,63 +26,63 @@ use Rattle.affine.proofs.product.put_linear.Tie as tie
 abbrev of : (ℤ → ℤ) → Row → Row → ℕ → List ℤ
 of h x y i = front symbols (λ k. h (linear_total x y k)) i
 
-abbrev invariant_loop : tie.invariant-loop
+abbrev invariant_loop : tie.invariant-loop-i
 invariant_loop out₀ c a d b own remainders₀ i₀ out remainders i =
     let x = row_of_parts (to_z w64 c) a [] in
     let y = row_of_parts (to_z w64 d) b [] in
     (i ≤ own) × (out ≡ of product_rounding.quotient x y i) × (remainders ≡ sum_abs (of product_rounding.remainder x y i))
 
-abbrev decreases_loop : tie.decreases-loop
+abbrev decreases_loop : tie.decreases-loop-i
 decreases_loop out₀ c a d b own remainders₀ i₀ out remainders i = own - i
 
 -- ---- the two rows
 abbrev lent : tie.Start invariant_loop decreases_loop → LentRows
 lent c = let g = c.args in lent_rows g.c g.a.now [] g.d g.b.now [] c.ranges.c c.ranges.d
 
-loop_holds : tie.Need-loop-init invariant_loop decreases_loop
+loop_holds : tie.Need-loop-i-init invariant_loop decreases_loop
 loop_holds c = (omega arith, c.requires.0.1 ∙ front_none symbols _, sym (front_sum_none symbols _))
 
 -- ---- a turn
-abbrev start : tie.In-loop invariant_loop decreases_loop → tie.Start invariant_loop decreases_loop
+abbrev start : tie.In-loop-i invariant_loop decreases_loop → tie.Start invariant_loop decreases_loop
 start c = c.before.before
 
-abbrev index : tie.In-loop invariant_loop decreases_loop → ℕ
-index c = c.before.loop.i
+abbrev index : tie.In-loop-i invariant_loop decreases_loop → ℕ
+index c = c.before.loop-i.i
 
-inside : (c : tie.In-loop invariant_loop decreases_loop) → index c < symbols
-inside c = omega (arith, c.loop-test.true, (start c).requires.0.0)
+inside : (c : tie.In-loop-i invariant_loop decreases_loop) → index c < symbols
+inside c = omega (arith, c.loop-i-test.true, (start c).requires.0.0)
 
-linear_total_requires : tie.Need-linear-total-requires invariant_loop decreases_loop
-linear_total_requires c κs = let s = start c in (inside c, (read_x_within (lent s) s.pre.1.0, read_y_within (lent s) s.pre.1.1))
+linear_total_requires : tie.Need-linear_total-t-requires invariant_loop decreases_loop
+linear_total_requires c κs = let s = start c in (inside c, (read_x_within (lent s) s.requires.1.0, read_y_within (lent s) s.requires.1.1))
 
-total_is : (c : tie.After-linear-total invariant_loop decreases_loop)
+total_is : (c : tie.After-linear_total-t invariant_loop decreases_loop)
     → let t = c.before in
-    to_z w64 (of_z w64 c.linear-total.result) ≡ linear_total (read_x (lent (start t))) (read_y (lent (start t))) (index t)
-total_is c = back c.linear-total.type-inv ∙ c.linear-total.ensures
+    to_z w64 (of_z w64 c.linear_total-t.result) ≡ linear_total (read_x (lent (start t))) (read_y (lent (start t))) (index t)
+total_is c = back c.linear_total-t.type_inv ∙ c.linear_total-t.ensures
 
-put_quotient_requires : tie.Need-put-quotient-requires invariant_loop decreases_loop
+put_quotient_requires : tie.Need-put_quotient-remainders-requires invariant_loop decreases_loop
 put_quotient_requires c κs =
     let t = c.before.before in
-    let out_is = t.before.loop.invariant.1 in
+    let out_is = t.before.loop-i.invariant.1 in
     rw out_is (rw (length_front symbols) (inside t), front_zero symbols _ (index t) (inside t))
 
 -- ---- what the turn leaves
 abbrev Once : Type 0
-Once = tie.After-out invariant_loop decreases_loop
+Once = tie.After-out-1 invariant_loop decreases_loop
 
-abbrev totalled : Once → tie.After-linear-total invariant_loop decreases_loop
+abbrev totalled : Once → tie.After-linear_total-t invariant_loop decreases_loop
 totalled c = c.before.before.before
 
-abbrev within : Once → tie.In-loop invariant_loop decreases_loop
+abbrev within : Once → tie.In-loop-i invariant_loop decreases_loop
 within c = (totalled c).before
 
 remainder_is : (c : Once)
     → let t = within c in
-    t.before.loop.remainders + c.before.put-quotient.result
+    t.before.loop-i.remainders + c.before.put_quotient-remainders.result
     ≡ sum_abs (of product_rounding.remainder (read_x (lent (start t))) (read_y (lent (start t))) (index t + 1))
 remainder_is c =
     let t = within c in
-    ap₂ ◌+◌ t.before.loop.inv.2 ((rw (total_is (totalled c)) at c.before.put-quotient.ensures.1))
+    ap₂ ◌+◌ t.before.loop-i.invariant.2 ((rw (total_is (totalled c)) at c.before.put_quotient-remainders.ensures.1))
     ∙ sym (front_sum_more symbols _ (index t) (inside t))
 
 all_small : (c : tie.Start invariant_loop decreases_loop) (i : ℕ) → sum_abs (of product_rounding.remainder (read_x (lent c)) (read_y (lent c)) i) ≤ unit * symbols
@@ -91,44 +91,44 @@ all_small c i =
     let whole = ap sum_abs (map_linear_totals product_rounding.remainder (read_x (lent c)) (read_y (lent c))) in
     omega (arith, bounded, whole, remainders_within (linear_totals (read_x (lent c)) (read_y (lent c))), length_linear_totals (read_x (lent c)) (read_y (lent c)))
 
-add_remainders : tie.Need-overflow-add-remainders invariant_loop decreases_loop
+add_remainders : tie.Need-overflow_add-remainders invariant_loop decreases_loop
 add_remainders c = let t = within c in omega (arith, remainder_is c, all_small (start t) (index t + 1))
 
-add_i : tie.Need-overflow-add-i invariant_loop decreases_loop
+add_i : tie.Need-overflow_add-i invariant_loop decreases_loop
 add_i c = omega (arith, inside (within c))
 
-loop_less : tie.Need-loop-smaller invariant_loop decreases_loop
+loop_less : tie.Need-loop-i-smaller invariant_loop decreases_loop
 loop_less c = search rules
 
-loop_again : tie.Need-loop-preserved invariant_loop decreases_loop
+loop_again : tie.Need-loop-i-preserved invariant_loop decreases_loop
 loop_again c =
     let t = within c in (
-      omega (arith, t.loop-test.taken),
-      c.before.put-quotient.ensures.0
-          ∙ ap₂ (λ l v. set l (index t) (product_rounding.quotient v)) t.before.loop.inv.1 (total_is (totalled c))
+      omega (arith, t.loop-i-test.true),
+      c.before.put_quotient-remainders.ensures.0
+          ∙ ap₂ (λ l v. set l (index t) (product_rounding.quotient v)) t.before.loop-i.invariant.1 (total_is (totalled c))
           ∙ front_more symbols _ (index t) (inside t),
       remainder_is c,
     )
 
-same_length : tie.Need-same-length invariant_loop decreases_loop
+same_length : tie.Need-shape_of-out invariant_loop decreases_loop
 same_length c =
     let l = c.before in
-    ap length l.loop.invariant.1 ∙ length_front symbols _ l.loop.i ∙ sym (ap length l.before.requires.0.1 ∙ length-replicate symbols (pos 0))
+    ap length l.loop-i.invariant.1 ∙ length_front symbols _ l.loop-i.i ∙ sym (ap length l.before.requires.0.1 ∙ length-replicate symbols (pos 0))
 
 -- the totals from the own symbol on leave nothing
-whole : (c : tie.After-loop invariant_loop decreases_loop) (h : ℤ → ℤ) → h (pos 0) ≡ pos 0
+whole : (c : tie.After-loop-i invariant_loop decreases_loop) (h : ℤ → ℤ) → h (pos 0) ≡ pos 0
     → let s = c.before.before in
-    of h (read_x (lent s)) (read_y (lent s)) c.before.loop.i ≡ map h (linear_totals (given_x (lent s)) (given_y (lent s)))
+    of h (read_x (lent s)) (read_y (lent s)) c.before.loop-i.i ≡ map h (linear_totals (given_x (lent s)) (given_y (lent s)))
 whole c h z =
     let s = c.before.before in
     let none = linear_total_none (read_x (lent s)) (read_y (lent s)) s.args.own s.requires.0.2 s.requires.0.3 in
-    front_all symbols _ c.before.loop.i (λ k l. ap h (none k (omega (arith, c.loop-test.false))) ∙ z)
+    front_all symbols _ c.before.loop-i.i (λ k l. ap h (none k (omega (arith, c.loop-i-test.false))) ∙ z)
     ∙ sym (map_linear_totals h (read_x (lent s)) (read_y (lent s)))
     ∙ ap (map h) (read_as_given (lent s) linear_totals)
 
 returns : tie.Need-returns invariant_loop decreases_loop
 returns c =
-    let inv = c.before.loop.invariant in
+    let inv = c.before.loop-i.invariant in
     (inv.1 ∙ whole c product_rounding.quotient quotient_zero, inv.2 ∙ ap sum_abs (whole c product_rounding.remainder remainder_zero))
 
 pub put_linear_spec : {M : Type 1} → statement M

@@ -22,12 +22,12 @@ use Rattle.affine.proofs.Divided.{quotients, remainders, map_pair_totals}
 use Rattle.affine.proofs.product.put_pairs.Statement.{statement}
 use Rattle.affine.proofs.product.put_pairs.Tie as tie
 
-abbrev invariant_loop : tie.invariant-loop
+abbrev invariant_loop : tie.invariant-loop-j
 invariant_loop out₀ c a p d b q squares remainders₀ j₀ out remaining j =
     let totals = pair_totals j (row_of_parts (to_z w64 c) a p) (row_of_parts (to_z w64 d) b q) in
     (j ≤ squares) × (out ≡ quotients totals) × (remaining ≡ sum_abs (remainders totals))
 
-abbrev decreases_loop : tie.decreases-loop
+abbrev decreases_loop : tie.decreases-loop-j
 decreases_loop out₀ c a p d b q squares remainders₀ j₀ out remaining j = squares - j
 
 abbrev Start : Type 0
@@ -41,52 +41,52 @@ lent c = let g = c.args in lent_rows g.c g.a.now g.p.now g.d g.b.now g.q.now c.r
 none_used : (c : Start) (h : ℤ → ℤ) → h (pos 0) ≡ pos 0 → replicate pairs (pos 0) ≡ map h (pair_totals 0 (read_x (lent c)) (read_y (lent c)))
 none_used c h z = used_none _ ∙ sym (map_pair_totals h (read_x (lent c)) (read_y (lent c)) z 0)
 
-loop_holds : tie.Need-loop-init invariant_loop decreases_loop
+loop_holds : tie.Need-loop-j-init invariant_loop decreases_loop
 loop_holds c = (
   omega arith,
   c.requires.0.1 ∙ none_used c product_rounding.quotient quotient_zero,
   sym (sum_abs_zeros pairs) ∙ ap sum_abs (none_used c product_rounding.remainder remainder_zero),
 )
 
-put_column_requires : tie.Need-put-column-requires invariant_loop decreases_loop
+put_column_requires : tie.Need-put_column-remainders-requires invariant_loop decreases_loop
 put_column_requires c κs =
     let t = c.before in
     let s = t.before.before in
-    let inv = t.before.loop.invariant in
-    ((omega (arith, t.loop-test.true, s.requires.0.0), read_x_within (lent s) s.requires.1.0, read_y_within (lent s) s.requires.1.1), (inv.1, inv.2))
+    let inv = t.before.loop-j.invariant in
+    ((omega (arith, t.loop-j-test.true, s.requires.0.0), read_x_within (lent s) s.requires.1.0, read_y_within (lent s) s.requires.1.1), (inv.1, inv.2))
 
-add_j : tie.Need-overflow-add-j invariant_loop decreases_loop
+add_j : tie.Need-overflow_add-j invariant_loop decreases_loop
 add_j c = search rules
 
-loop_less : tie.Need-loop-smaller invariant_loop decreases_loop
+loop_less : tie.Need-loop-j-smaller invariant_loop decreases_loop
 loop_less c = search rules
 
-loop_again : tie.Need-loop-preserved invariant_loop decreases_loop
+loop_again : tie.Need-loop-j-preserved invariant_loop decreases_loop
 loop_again c =
     let p = c.before in
     let t = p.before.before in
-    rw (add-one t.before.loop.j) (t.loop-test.true, p.put-column.ensures.0, p.put-column.ensures.1)
+    rw (add-one t.before.loop-j.j) (t.loop-j-test.true, p.put_column-remainders.ensures.0, p.put_column-remainders.ensures.1)
 
-same_length : tie.Need-same-length invariant_loop decreases_loop
+same_length : tie.Need-shape_of-out invariant_loop decreases_loop
 same_length c =
     let l = c.before in
     let s = l.before in
-    ap length l.loop.invariant.1 ∙ length-map (pair_totals l.loop.j (read_x (lent s)) (read_y (lent s))) _ ∙ length_pair_totals l.loop.j (read_x (lent s)) (read_y (lent s))
+    ap length l.loop-j.invariant.1 ∙ length-map (pair_totals l.loop-j.j (read_x (lent s)) (read_y (lent s))) _ ∙ length_pair_totals l.loop-j.j (read_x (lent s)) (read_y (lent s))
     ∙ sym (ap length s.requires.0.1 ∙ length-replicate pairs (pos 0))
 
 -- all pairs in use
-all_used : (c : tie.After-loop invariant_loop decreases_loop)
+all_used : (c : tie.After-loop-j invariant_loop decreases_loop)
     → let s = c.before.before in
-    pair_totals c.before.loop.j (read_x (lent s)) (read_y (lent s)) ≡ pair_totals s.args.squares (given_x (lent s)) (given_y (lent s))
+    pair_totals c.before.loop-j.j (read_x (lent s)) (read_y (lent s)) ≡ pair_totals s.args.squares (given_x (lent s)) (given_y (lent s))
 all_used c =
     let l = c.before in
     let s = l.before in
-    let all : l.loop.j ≡ s.args.squares = omega (arith, l.loop.invariant.0, c.loop-test.false) in
+    let all : l.loop-j.j ≡ s.args.squares = omega (arith, l.loop-j.invariant.0, c.loop-j-test.false) in
     ap (λ n. pair_totals n (read_x (lent s)) (read_y (lent s))) all ∙ read_as_given (lent s) (pair_totals s.args.squares)
 
 returns : tie.Need-returns invariant_loop decreases_loop
 returns c =
-    let inv = c.before.loop.invariant in
+    let inv = c.before.loop-j.invariant in
     (inv.1 ∙ ap quotients (all_used c), inv.2 ∙ ap (λ t. sum_abs (remainders t)) (all_used c))
 
 pub put_pairs_spec : {M : Type 1} → statement M

@@ -15,36 +15,36 @@ use Rattle.affine.proofs.product.put_quotient.Tie as tie
 total_is : (c : tie.Start) → to_z w64 (of_z w64 c.args.t) ≡ c.args.t
 total_is c = to_z-of_z w64 _ c.ranges.t
 
-is_zero : (c : tie.Then1) → c.before.args.t ≡ pos 0
-is_zero c = sym (total_is c.before) ∙ ap (to_z w64) c.if1.true
+is_zero : (c : tie.Then-t-eq0) → c.before.args.t ≡ pos 0
+is_zero c = sym (total_is c.before) ∙ ap (to_z w64) c.if-t-eq0.true
 
-returns : tie.Need-returns
+returns : tie.Need-returns-then-t-eq0
 returns c =
     let s = c.before in
     let zero_there = s.requires.1 in
     rw (is_zero c, quotient_zero, remainder_zero, ← zero_there) (sym (set-get_or s.args.out.now s.args.i (pos 0)), refl)
 
-nearest_quotient_4096_requires : tie.Need-nearest-quotient-4096-requires
+nearest_quotient_4096_requires : tie.Need-nearest_quotient_4096-requires
 nearest_quotient_4096_requires c κs = search rules
 
-mul_t6 : tie.Need-overflow-mul-t6
+mul_t6 : tie.Need-offset_bounds-out-i
 mul_t6 c = search rules
 
-slice_set_from_out : tie.Need-slice-set-from-out
+slice_set_from_out : tie.Need-bounds-out-i
 slice_set_from_out c = search rules
 
-nearest_remainder_4096_requires : tie.Need-nearest-remainder-4096-requires
+nearest_remainder_4096_requires : tie.Need-nearest_remainder_4096-requires
 nearest_remainder_4096_requires c κs = search rules
 
-same_length : tie.Need-same-length
+same_length : tie.Need-shape_of-out
 same_length c = search rules
 
-returns_2 : tie.Need-returns-2
+returns_2 : tie.Need-returns
 returns_2 c =
     let q = c.before in
     let s = q.before.before in (
-      ap (set s.args.out.now s.args.i) (back q.nearest-quotient-4096.type-inv ∙ (rw (total_is s) at q.nearest-quotient-4096.ensures)),
-      rw (total_is s) at c.nearest-remainder-4096.ensures,
+      ap (set s.args.out.now s.args.i) (back q.nearest_quotient_4096.type_inv ∙ (rw (total_is s) at q.nearest_quotient_4096.ensures)),
+      rw (total_is s) at c.nearest_remainder_4096.ensures,
     )
 
 pub put_quotient_spec : {M : Type 1} → statement M

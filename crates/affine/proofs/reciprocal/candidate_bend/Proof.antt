@@ -13,10 +13,10 @@ use Rattle.affine.proofs.CandidateSize.{BendSize, bend_size}
 use Rattle.affine.proofs.reciprocal.candidate_bend.Statement.{statement}
 use Rattle.affine.proofs.reciprocal.candidate_bend.Tie as tie
 
-is_zero : (c : tie.Then1) → c.before.args.met ≡ pos 0
-is_zero c = sym (to_z-of_z w64 _ c.before.ranges.met) ∙ ap (to_z w64) c.if1.true
+is_zero : (c : tie.Then-met-eq0) → c.before.args.met ≡ pos 0
+is_zero c = sym (to_z-of_z w64 _ c.before.ranges.met) ∙ ap (to_z w64) c.if-met-eq0.true
 
-returns : tie.Need-returns
+returns : tie.Need-returns-then-met-eq0
 returns c = rw (is_zero c) (sym (zero_quotient c.before.args.c))
 
 -- ---- the products with their sign turned
@@ -31,18 +31,18 @@ turned c = rw (to_z-of_z w64 _ c.ranges.met) (+ℤ_idl (neg_ℤ c.args.met))
 turned_is : (c : tie.Start) → to_z w64 (of_z w64 (pos 0 -ℤ to_z w64 (of_z w64 c.args.met))) ≡ neg_ℤ c.args.met
 turned_is c = back_as (turned c) (size c).turned_fits
 
-sub_floor_quotient : tie.Need-overflow-sub-floor-quotient
+sub_floor_quotient : tie.Need-overflow_sub-met
 sub_floor_quotient c = rw (turned c.before) (size c.before).turned_fits
 
-floor_quotient_requires : tie.Need-floor-quotient-requires
+floor_quotient_requires : tie.Need-floor_quotient-requires
 floor_quotient_requires c κs =
     let s = c.before in
-    rw (turned_is s, to_z-of_z w64 _ s.ranges.c) ((size s).centre_some, (size s).ranges)
+    rw (turned_is s, to_z-of_z w64 _ s.ranges.c) ((size s).centre_some, (size s).fits)
 
-returns_2 : tie.Need-returns-2
+returns_2 : tie.Need-returns
 returns_2 c =
     let s = c.before.before in
-    back c.floor-quotient.type-inv ∙ (rw (turned_is s, to_z-of_z w64 _ s.ranges.c) at c.floor-quotient.ensures)
+    back c.floor_quotient.type_inv ∙ (rw (turned_is s, to_z-of_z w64 _ s.ranges.c) at c.floor_quotient.ensures)
 
 pub candidate_bend_spec : {M : Type 1} → statement M
 candidate_bend_spec = tie.close (tie.spec returns sub_floor_quotient floor_quotient_requires returns_2)

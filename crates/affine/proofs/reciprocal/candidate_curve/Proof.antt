@@ -25,24 +25,24 @@ sum_fits c =
     (bend_size (2 * (unit_squared * span_limit)) g.c g.met (omega arith) h.3 h.2))
     (omega arith)
 
-candidate_slope_requires : tie.Need-candidate-slope-requires
+candidate_slope_requires : tie.Need-candidate_slope-requires
 candidate_slope_requires c κs = search rules
 
-candidate_bend_requires : tie.Need-candidate-bend-requires
+candidate_bend_requires : tie.Need-candidate_bend-requires
 candidate_bend_requires c κs = search rules
 
-sum_is : (c : tie.After-candidate-bend)
-    → to_z w64 (of_z w64 c.before.candidate-slope.result) +ℤ to_z w64 (of_z w64 c.candidate-bend.result)
+sum_is : (c : tie.After-candidate_bend)
+    → to_z w64 (of_z w64 c.before.candidate_slope.result) +ℤ to_z w64 (of_z w64 c.candidate_bend.result)
     ≡ slope c.before.before.args.c c.before.before.args.p
     +ℤ floor_quotient (neg_ℤ c.before.before.args.met) c.before.before.args.c
 sum_is c =
     let s = c.before.before in
     ap₂ ◌+ℤ◌
-    (back c.before.candidate-slope.type-inv
-    ∙ (rw (to_z-of_z w64 _ s.ranges.c, to_z-of_z w64 _ s.ranges.p) at c.before.candidate-slope.ensures))
-    (back c.candidate-bend.type-inv ∙ (rw (to_z-of_z w64 _ s.ranges.c, to_z-of_z w64 _ s.ranges.met) at c.candidate-bend.ensures))
+    (back c.before.candidate_slope.type_inv
+    ∙ (rw (to_z-of_z w64 _ s.ranges.c, to_z-of_z w64 _ s.ranges.p) at c.before.candidate_slope.ensures))
+    (back c.candidate_bend.type_inv ∙ (rw (to_z-of_z w64 _ s.ranges.c, to_z-of_z w64 _ s.ranges.met) at c.candidate_bend.ensures))
 
-add_result : tie.Need-overflow-add-result
+add_result : tie.Need-overflow_add-result
 add_result c = rw (sum_is c) (sum_fits c.before.before)
 
 returns : tie.Need-returns

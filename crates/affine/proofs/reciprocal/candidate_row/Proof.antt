@@ -18,59 +18,59 @@ use Rattle.affine.proofs.reciprocal.candidate_row.Statement.{statement}
 use Rattle.affine.proofs.reciprocal.candidate_row.Tie as tie
 
 -- ---- the operand
-abbrev x : tie.After-struct-told → Row
-x c = c.before.args.t1
+abbrev x : tie.After-struct_told-1 → Row
+x c = c.before.args.x
 
-c_is : (c : tie.After-struct-told) → to_z w64 (of_z w64 (x c).centre) ≡ (x c).centre
+c_is : (c : tie.After-struct_told-1) → to_z w64 (of_z w64 (x c).centre) ≡ (x c).centre
 c_is c = search rules
 
 -- ---- the linear coefficients
-abbrev told : tie.After-put-slopes-arg → tie.After-struct-told
-told c = c.before.before.before
+abbrev told : tie.After-put_slopes-arg-1 → tie.After-struct_told-1
+told c = c.before.before
 
-slice_aggregate_put_slopes : tie.Need-slice-aggregate-put-slopes
+slice_aggregate_put_slopes : tie.Need-slice_bounds-put_slopes-end
 slice_aggregate_put_slopes c = search rules
 
-put_slopes_requires : tie.Need-put-slopes-requires
+put_slopes_requires : tie.Need-put_slopes-requires
 put_slopes_requires c κs =
     let o = told c in
-    let p = o.before.pre in
+    let p = o.before.requires in
     rw (c_is o) ((p.0.1, refl, p.0.2), (centre_within (x o) p.1.0, p.1.1, linear_within (x o) p.1.0))
 
-linear_is : (c : tie.After-put-slopes) → c.put-slopes.new.0 ≡ candidate_linear (x (told c.before))
+linear_is : (c : tie.After-put_slopes) → c.put_slopes.new.out ≡ candidate_linear (x (told c.before))
 unfolding candidate_linear
-linear_is c = rw (c_is (told c.before)) at c.put-slopes.ensures
+linear_is c = rw (c_is (told c.before)) at c.put_slopes.ensures
 
 -- ---- the coefficients of the pairs
-abbrev slopes : tie.After-linear3 → tie.After-put-slopes
-slopes c = c.before.before.before.before.before.before
+abbrev slopes : tie.After-linear-3-1 → tie.After-put_slopes
+slopes c = c.before.before.before.before.before
 
-slice_aggregate_put_curves : tie.Need-slice-aggregate-put-curves
+slice_aggregate_put_curves : tie.Need-slice_bounds-put_curves-end
 slice_aggregate_put_curves c = search rules
 
-put_curves_requires : tie.Need-put-curves-requires
+put_curves_requires : tie.Need-put_curves-requires
 put_curves_requires c κs =
     let o = told (slopes c).before in
-    let p = o.before.pre in
+    let p = o.before.requires in
     rw (c_is o) ((p.0.0, p.1.0, p.1.1, p.1.2), (linear_is (slopes c), refl))
 
-pair_is : (c : tie.After-put-curves)
-    → c.put-curves.new.0 ≡ candidate_pair (told (slopes c.before).before).before.args.squares (x (told (slopes c.before).before))
-pair_is c = rw (c_is (told (slopes c.before).before)) at c.put-curves.ensures
+pair_is : (c : tie.After-put_curves)
+    → c.put_curves.new.out ≡ candidate_pair (told (slopes c.before).before).before.args.squares (x (told (slopes c.before).before))
+pair_is c = rw (c_is (told (slopes c.before).before)) at c.put_curves.ensures
 
 -- ---- the centre
-floor_quotient_requires : tie.Need-floor-quotient-requires
+floor_quotient_requires : tie.Need-floor_quotient-requires
 floor_quotient_requires c κs =
     let o = told (slopes c.before.before).before in
     rw (c_is o) (
-      not_zero (x o).centre o.before.pre.1.1,
+      not_zero (x o).centre o.before.requires.1.1,
       fits_within (floor_quotient (pos unit_squared) (x o).centre) unit_squared (nat_abs_quotient (pos unit_squared) (x o).centre) (omega arith),
     )
 
 returns : tie.Need-returns
 returns c =
     let curves = c.before.before in
-    let centre = back c.floor-quotient.type-inv ∙ (rw (c_is (told (slopes curves.before).before)) at c.floor-quotient.ensures) in
+    let centre = back c.floor_quotient.type_inv ∙ (rw (c_is (told (slopes curves.before).before)) at c.floor_quotient.ensures) in
     λ i. record { centre = centre i; linear = linear_is (slopes curves.before) i; pair = pair_is curves i }
 
 pub candidate_row_spec : {M : Type 1} → statement M

@@ -13,10 +13,10 @@ use Rattle.affine.proofs.Candidate.{slope_zero}
 use Rattle.affine.proofs.reciprocal.candidate_slope.Statement.{statement}
 use Rattle.affine.proofs.reciprocal.candidate_slope.Tie as tie
 
-is_zero : (c : tie.Then1) → c.before.args.v ≡ pos 0
-is_zero c = sym (to_z-of_z w64 _ c.before.ranges.v) ∙ ap (to_z w64) c.if1.true
+is_zero : (c : tie.Then-v-eq0) → c.before.args.v ≡ pos 0
+is_zero c = sym (to_z-of_z w64 _ c.before.ranges.v) ∙ ap (to_z w64) c.if-v-eq0.true
 
-returns : tie.Need-returns
+returns : tie.Need-returns-then-v-eq0
 returns c = rw (is_zero c) (sym (slope_zero c.before.args.c))
 
 -- ---- the two that are divided
@@ -31,24 +31,24 @@ top_is c = rw (to_z-of_z w64 _ c.ranges.v) (to_z-of_z w64 _ (size c).top_fits)
 square_is : (c : tie.Start) → to_z w64 (of_z w64 (to_z w64 (of_z w64 c.args.c) *ℤ to_z w64 (of_z w64 c.args.c))) ≡ c.args.c *ℤ c.args.c
 square_is c = operation_gives ◌*ℤ◌ c.ranges.c c.ranges.c (size c).square_fits
 
-sub_floor_quotient : tie.Need-overflow-sub-floor-quotient
+sub_floor_quotient : tie.Need-overflow_sub-floor_quotient
 sub_floor_quotient c = search rules
 
-mul_floor_quotient : tie.Need-overflow-mul-floor-quotient
+mul_floor_quotient : tie.Need-overflow_mul-v
 mul_floor_quotient c = rw (to_z-of_z w64 _ c.before.ranges.v) (size c.before).top_fits
 
-mul_floor_quotient_2 : tie.Need-overflow-mul-floor-quotient-2
+mul_floor_quotient_2 : tie.Need-overflow_mul-c
 mul_floor_quotient_2 c = let w = size c.before in search rules
 
-floor_quotient_requires : tie.Need-floor-quotient-requires
+floor_quotient_requires : tie.Need-floor_quotient-requires
 floor_quotient_requires c κs =
     let s = c.before in
-    rw (top_is s, square_is s) ((size s).square_some, (size s).ranges)
+    rw (top_is s, square_is s) ((size s).square_some, (size s).fits)
 
-returns_2 : tie.Need-returns-2
+returns_2 : tie.Need-returns
 returns_2 c =
     let s = c.before.before in
-    back c.floor-quotient.type-inv ∙ (rw (top_is s, square_is s) at c.floor-quotient.ensures)
+    back c.floor_quotient.type_inv ∙ (rw (top_is s, square_is s) at c.floor_quotient.ensures)
 
 pub candidate_slope_spec : {M : Type 1} → statement M
 candidate_slope_spec =

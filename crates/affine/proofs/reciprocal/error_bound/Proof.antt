@@ -50,13 +50,13 @@ product_is : (c : tie.Start)
     → to_z w64 (of_z w64 (to_z w64 (of_z w64 c.args.c) *ℤ to_z w64 (of_z w64 c.args.d))) ≡ c.args.c *ℤ c.args.d
 product_is c = operation_gives ◌*ℤ◌ c.ranges.c c.ranges.d (product_fits c)
 
-mul_t : tie.Need-overflow-mul-t
+mul_t : tie.Need-overflow_mul-t
 mul_t c = operation_fits ◌*ℤ◌ c.ranges.c c.ranges.d (product_fits c)
 
-sub_t : tie.Need-overflow-sub-t
+sub_t : tie.Need-overflow_sub-t
 sub_t c = rw (product_is c) (less_fits c)
 
-absolute_requires : tie.Need-absolute-requires
+absolute_requires : tie.Need-absolute-centre-requires
 absolute_requires c κs = search rules
 
 -- ---- the sums of the totals, of the parts of both rows as they are lent
@@ -66,18 +66,18 @@ c_is c = to_z-of_z w64 _ c.ranges.c
 d_is : (c : tie.Start) → to_z w64 (of_z w64 c.args.d) ≡ c.args.d
 d_is c = to_z-of_z w64 _ c.ranges.d
 
-linear_bound_requires : tie.Need-linear-bound-requires
+linear_bound_requires : tie.Need-linear_bound-linear-requires
 linear_bound_requires c κs =
     let s = c.before in
     let p = s.requires.0 in
     rw (c_is s, d_is s) ((p.1, p.2, p.3), (unpaired_within (x s) (x_within s), unpaired_within (z s) (z_within s)))
 
-pair_bound_requires : tie.Need-pair-bound-requires
+pair_bound_requires : tie.Need-pair_bound-pair-requires
 pair_bound_requires c κs =
     let s = c.before.before in
     rw (c_is s, d_is s) (s.requires.0.0, x_within s, z_within s)
 
-dropped_part_requires : tie.Need-dropped-part-requires
+dropped_part_requires : tie.Need-dropped_part-dropped-requires
 dropped_part_requires c κs =
     let s = c.before.before.before in
     let (a_long, a_within, a_radius_is) = s.requires.1.0 in
@@ -90,32 +90,32 @@ dropped_part_requires c κs =
     )
 
 -- ---- the sum of the four parts
-abbrev start : tie.After-dropped-part → tie.Start
+abbrev start : tie.After-dropped_part-dropped → tie.Start
 start c = c.before.before.before.before
 
-sum_is : (c : tie.After-dropped-part)
-    → c.before.before.before.absolute.result + c.before.before.linear-bound.result + c.before.pair-bound.result + c.dropped-part.result
+sum_is : (c : tie.After-dropped_part-dropped)
+    → c.before.before.before.absolute-centre.result + c.before.before.linear_bound-linear.result + c.before.pair_bound-pair.result + c.dropped_part-dropped.result
     ≡ error_bound (start c).args.squares (x (start c)) (z (start c))
 sum_is c =
     let s = start c in
-    let p = s.pre.1 in
+    let p = s.requires.1 in
     let squares = s.args.squares in
-    let centre = rw (product_is s, to_z-of_z w64 _ (less_fits s)) at c.before.before.before.absolute.ensures in
-    let linear = c.before.before.linear-bound.ensures ∙ ap sum_abs (linear_totals_of_parts (x s) (z s) (c_is s) (d_is s)) in
-    let pair = c.before.pair-bound.ensures ∙ ap sum_abs (pair_totals_of_parts (x s) (z s) (c_is s) (d_is s) squares) in
-    let dropped = c.dropped-part.ensures ∙ dropped_of_radii squares (x s) (z s) p.0.2 p.1.2 in
+    let centre = rw (product_is s, to_z-of_z w64 _ (less_fits s)) at c.before.before.before.absolute-centre.ensures in
+    let linear = c.before.before.linear_bound-linear.ensures ∙ ap sum_abs (linear_totals_of_parts (x s) (z s) (c_is s) (d_is s)) in
+    let pair = c.before.pair_bound-pair.ensures ∙ ap sum_abs (pair_totals_of_parts (x s) (z s) (c_is s) (d_is s) squares) in
+    let dropped = c.dropped_part-dropped.ensures ∙ dropped_of_radii squares (x s) (z s) p.0.2 p.1.2 in
     ap₂ ◌+◌ (ap₂ ◌+◌ (ap₂ ◌+◌ centre linear) pair) dropped ∙ error_bound_is_sum squares (x s) (z s)
 
-sum_within : (c : tie.After-dropped-part) → error_bound (start c).args.squares (x (start c)) (z (start c)) ≤ span_limit * span_limit + unit_squared
+sum_within : (c : tie.After-dropped_part-dropped) → error_bound (start c).args.squares (x (start c)) (z (start c)) ≤ span_limit * span_limit + unit_squared
 sum_within c = let s = start c in error_bound_within s.args.squares (x s) (z s) (x_within s) (z_within s)
 
-add_result : tie.Need-overflow-add-result
+add_result : tie.Need-overflow_add-result
 add_result c = omega (arith, sum_is c, sum_within c)
 
-add_result_2 : tie.Need-overflow-add-result-2
+add_result_2 : tie.Need-overflow_add-result-2
 add_result_2 c = omega (arith, sum_is c, sum_within c)
 
-add_result_3 : tie.Need-overflow-add-result-3
+add_result_3 : tie.Need-overflow_add-result-3
 add_result_3 c = omega (arith, sum_is c, sum_within c)
 
 returns : tie.Need-returns

@@ -15,11 +15,11 @@ use Rattle.affine.proofs.LoopSums.{pair_sum_none}
 use Rattle.affine.proofs.reciprocal.pair_bound.Statement.{statement}
 use Rattle.affine.proofs.reciprocal.pair_bound.Tie as tie
 
-abbrev invariant_loop : tie.invariant-loop
+abbrev invariant_loop : tie.invariant-loop-j
 invariant_loop c a p d b q squares bound₀ j₀ bound j =
     (j ≤ squares) × (bound ≡ sum_abs (pair_totals j (row_of_parts (to_z w64 c) a p) (row_of_parts (to_z w64 d) b q)))
 
-abbrev decreases_loop : tie.decreases-loop
+abbrev decreases_loop : tie.decreases-loop-j
 decreases_loop c a p d b q squares bound₀ j₀ bound j = squares - j
 
 -- ---- the two rows
@@ -32,31 +32,31 @@ x_within c = read_x_within (lent c) c.requires.1
 y_within : (c : tie.Start invariant_loop decreases_loop) → span (read_y (lent c)) ≤ span_limit
 y_within c = read_y_within (lent c) c.requires.2
 
-loop_holds : tie.Need-loop-init invariant_loop decreases_loop
+loop_holds : tie.Need-loop-j-init invariant_loop decreases_loop
 unfolding pair_totals
 loop_holds c = (omega arith, pair_sum_none (pair_total (read_x (lent c)) (read_y (lent c))))
 
 -- ---- a turn
-column_bound_requires : tie.Need-column-bound-requires invariant_loop decreases_loop
+column_bound_requires : tie.Need-column_bound-bound-requires invariant_loop decreases_loop
 column_bound_requires c κs =
     let s = c.before.before in
-    ((omega (arith, c.loop-test.true, s.requires.0), x_within s, y_within s), c.before.loop.invariant.1)
+    ((omega (arith, c.loop-j-test.true, s.requires.0), x_within s, y_within s), c.before.loop-j.invariant.1)
 
-add_j : tie.Need-overflow-add-j invariant_loop decreases_loop
-add_j c = omega (arith, c.before.loop-test.true, c.before.before.before.requires.0)
+add_j : tie.Need-overflow_add-j invariant_loop decreases_loop
+add_j c = omega (arith, c.before.loop-j-test.true, c.before.before.before.requires.0)
 
-loop_less : tie.Need-loop-smaller invariant_loop decreases_loop
+loop_less : tie.Need-loop-j-smaller invariant_loop decreases_loop
 loop_less c = search rules
 
-loop_again : tie.Need-loop-preserved invariant_loop decreases_loop
-loop_again c = (omega (arith, c.before.loop-test.true), rw add-one c.column-bound.ensures)
+loop_again : tie.Need-loop-j-preserved invariant_loop decreases_loop
+loop_again c = (omega (arith, c.before.loop-j-test.true), rw add-one c.column_bound-bound.ensures)
 
 returns : tie.Need-returns invariant_loop decreases_loop
 returns c =
     let o = c.before in
     let s = o.before in
-    let all : o.loop.j ≡ s.args.squares = omega (arith, c.loop-test.false, o.loop.invariant.0) in
-    o.loop.invariant.1
+    let all : o.loop-j.j ≡ s.args.squares = omega (arith, c.loop-j-test.false, o.loop-j.invariant.0) in
+    o.loop-j.invariant.1
     ∙ ap (λ n. sum_abs (pair_totals n (read_x (lent s)) (read_y (lent s)))) all
     ∙ ap sum_abs (read_as_given (lent s) (pair_totals s.args.squares))
 

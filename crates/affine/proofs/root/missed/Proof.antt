@@ -23,13 +23,13 @@ missed_fits c =
     let t = c.args.t in
     fits_within (missed v t) (unit * span_limit + span_limit * span_limit) (omega (arith, missed_within v t, c.requires.0, c.requires.1)) (omega arith)
 
-cast_result : tie.Need-overflow-cast-result
+cast_result : tie.Need-overflow_cast-result
 cast_result c = search rules
 
-mul_result : tie.Need-overflow-mul-result
+mul_result : tie.Need-overflow_mul-result
 mul_result c = let p = product_fits c in search rules
 
-sub_result : tie.Need-overflow-sub-result
+sub_result : tie.Need-overflow_sub-result
 sub_result c =
     let p = product_fits c in
     let m = missed_fits c in

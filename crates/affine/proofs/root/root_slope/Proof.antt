@@ -16,10 +16,10 @@ use Rattle.affine.proofs.RootCandidate.{root_slope_zero, half_unit_within, root_
 use Rattle.affine.proofs.root.root_slope.Statement.{statement}
 use Rattle.affine.proofs.root.root_slope.Tie as tie
 
-is_zero : (c : tie.Then1) → c.before.args.v ≡ pos 0
-is_zero c = sym (to_z-of_z w64 _ c.before.ranges.v) ∙ ap (to_z w64) c.if1.true
+is_zero : (c : tie.Then-v-eq0) → c.before.args.v ≡ pos 0
+is_zero c = sym (to_z-of_z w64 _ c.before.ranges.v) ∙ ap (to_z w64) c.if-v-eq0.true
 
-returns : tie.Need-returns
+returns : tie.Need-returns-then-v-eq0
 returns c = rw (is_zero c) (sym (root_slope_zero c.before.args.z))
 
 -- ---- the two that are divided
@@ -32,13 +32,13 @@ top_is c = rw (to_z-of_z w64 _ c.ranges.v) (to_z-of_z w64 _ (top_fits c))
 z_is : (c : tie.Start) → to_z w64 c.args.z ≡ pos c.args.z
 z_is c = to_z_pos w64 c.args.z (omega (arith, c.requires.1))
 
-mul_floor_quotient : tie.Need-overflow-mul-floor-quotient
+mul_floor_quotient : tie.Need-overflow_mul-v
 mul_floor_quotient c = rw (to_z-of_z w64 _ c.before.ranges.v) (top_fits c.before)
 
-cast_floor_quotient : tie.Need-overflow-cast-floor-quotient
+cast_floor_quotient : tie.Need-overflow_cast-z
 cast_floor_quotient c = search rules
 
-floor_quotient_requires : tie.Need-floor-quotient-requires
+floor_quotient_requires : tie.Need-floor_quotient-requires
 floor_quotient_requires c κs =
     let s = c.before in
     let z = s.args.z in
@@ -48,10 +48,10 @@ floor_quotient_requires c κs =
       fits_within (root_slope z v) (half_unit * span_limit) (omega (arith, root_slope_within z v, s.requires.2)) (omega arith),
     )
 
-returns_2 : tie.Need-returns-2
+returns_2 : tie.Need-returns
 returns_2 c =
     let s = c.before.before in
-    back c.floor-quotient.type-inv ∙ (rw (top_is s, z_is s) at c.floor-quotient.ensures)
+    back c.floor_quotient.type_inv ∙ (rw (top_is s, z_is s) at c.floor_quotient.ensures)
 
 pub root_slope_spec : {M : Type 1} → statement M
 root_slope_spec =

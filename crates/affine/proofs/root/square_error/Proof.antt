@@ -47,31 +47,31 @@ square_is : (c : tie.Start)
     → to_z w64 (of_z w64 (to_z w64 (of_z w64 c.args.z) *ℤ to_z w64 (of_z w64 c.args.z))) ≡ c.args.z *ℤ c.args.z
 square_is c = operation_gives ◌*ℤ◌ c.ranges.z c.ranges.z (square_fits c)
 
-mul_missed : tie.Need-overflow-mul-missed
+mul_missed : tie.Need-overflow_mul-z
 mul_missed c = operation_fits ◌*ℤ◌ c.ranges.z c.ranges.z (square_fits c)
 
 missed_requires : tie.Need-missed-requires
 missed_requires c κs = rw (c_is c, square_is c) (centre_within (x c) (x_within c), square_within c)
 
-absolute_requires : tie.Need-absolute-requires
+absolute_requires : tie.Need-absolute-centre-requires
 absolute_requires c κs = search rules
 
 -- ---- what the other totals miss, of the parts of both rows as they are lent
 z_is : (c : tie.Start) → to_z w64 (of_z w64 c.args.z) ≡ c.args.z
 z_is c = to_z-of_z w64 _ c.ranges.z
 
-linear_missed_requires : tie.Need-linear-missed-requires
+linear_missed_requires : tie.Need-linear_missed-linear-requires
 linear_missed_requires c κs =
     let s = c.before.before in
     let p = s.requires.0 in
     rw (z_is s) ((p.1, p.2, p.3), (linear_within (x s) (x_within s), unpaired_within (z s) (z_within s)))
 
-pair_missed_requires : tie.Need-pair-missed-requires
+pair_missed_requires : tie.Need-pair_missed-pair-requires
 pair_missed_requires c κs =
     let s = c.before.before.before in
     rw (z_is s) (s.requires.0.0, pair_within (x s) (x_within s), z_within s)
 
-dropped_part_requires : tie.Need-dropped-part-requires
+dropped_part_requires : tie.Need-dropped_part-dropped-requires
 dropped_part_requires c κs =
     let s = c.before.before.before.before in
     let long = s.requires.1.0.0 in
@@ -81,38 +81,38 @@ dropped_part_requires c κs =
 
 -- ---- the sum of the four parts
 abbrev Whole : Type 0
-Whole = tie.After-dropped-part
+Whole = tie.After-dropped_part-dropped
 
-abbrev centred : Whole → tie.After-absolute
+abbrev centred : Whole → tie.After-absolute-centre
 centred c = c.before.before.before
 
 abbrev start : Whole → tie.Start
 start c = (centred c).before.before
 
 sum_is : (c : Whole)
-    → (centred c).absolute.result + c.before.before.linear_missed.result + c.before.pair_missed.result + c.dropped-part.result
+    → (centred c).absolute-centre.result + c.before.before.linear_missed-linear.result + c.before.pair_missed-pair.result + c.dropped_part-dropped.result
     ≡ square_error (start c).args.squares (x (start c)) (z (start c))
 sum_is c =
     let s = start c in
     let m = (centred c).before.missed in
     let squares = s.args.squares in
-    let radius_is = s.pre.1.1.1 in
-    let centre = (centred c).absolute.ensures ∙ ap nat_abs (back m.ok ∙ (rw (c_is s, square_is s) at m.ensures)) in
-    let linear = c.before.before.linear_missed.ensures ∙ ap sum_abs (linear_misses_of_parts (x s) (z s) (z_is s)) in
-    let pair = c.before.pair_missed.ensures ∙ ap sum_abs (pair_misses_of_parts (x s) (z s) (z_is s) squares) in
-    let dropped = c.dropped-part.ensures ∙ dropped_of_radii squares (z s) (z s) radius_is radius_is in
+    let radius_is = s.requires.1.1.1 in
+    let centre = (centred c).absolute-centre.ensures ∙ ap nat_abs (back m.type_inv ∙ (rw (c_is s, square_is s) at m.ensures)) in
+    let linear = c.before.before.linear_missed-linear.ensures ∙ ap sum_abs (linear_misses_of_parts (x s) (z s) (z_is s)) in
+    let pair = c.before.pair_missed-pair.ensures ∙ ap sum_abs (pair_misses_of_parts (x s) (z s) (z_is s) squares) in
+    let dropped = c.dropped_part-dropped.ensures ∙ dropped_of_radii squares (z s) (z s) radius_is radius_is in
     ap₂ ◌+◌ (ap₂ ◌+◌ (ap₂ ◌+◌ centre linear) pair) dropped ∙ square_error_is_sum squares (x s) (z s)
 
 sum_within : (c : Whole) → square_error (start c).args.squares (x (start c)) (z (start c)) ≤ span_limit * span_limit + unit * span_limit
 sum_within c = let s = start c in square_error_within s.args.squares (x s) (z s) (x_within s) (z_within s)
 
-add_result : tie.Need-overflow-add-result
+add_result : tie.Need-overflow_add-result
 add_result c = omega (arith, sum_is c, sum_within c)
 
-add_result_2 : tie.Need-overflow-add-result-2
+add_result_2 : tie.Need-overflow_add-result-2
 add_result_2 c = omega (arith, sum_is c, sum_within c)
 
-add_result_3 : tie.Need-overflow-add-result-3
+add_result_3 : tie.Need-overflow_add-result-3
 add_result_3 c = omega (arith, sum_is c, sum_within c)
 
 returns : tie.Need-returns

@@ -10,12 +10,12 @@ use Rattle.affine.proofs.RootCandidate.{unit_root_is}
 use Rattle.affine.proofs.root.unit_root.Statement.{statement}
 use Rattle.affine.proofs.root.unit_root.Tie as tie
 
-cast_root : tie.Need-overflow-cast-root
+cast_root : tie.Need-overflow_cast-v
 cast_root c =
     let p = c.requires in
     rw (to_z-of_z w64 _ c.ranges.v) (yes_non_neg (≤ℤ_trans (pos-≤ℤ (omega arith)) p.0), record { fits = omega (arith, p.1) })
 
-mul_root : tie.Need-overflow-mul-root
+mul_root : tie.Need-overflow_mul-v
 mul_root c = rw (to_z-of_z w64 _ c.ranges.v) (record { fits = omega (arith, c.requires.1) })
 
 root_requires : tie.Need-root-requires

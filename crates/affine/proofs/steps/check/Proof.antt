@@ -11,26 +11,26 @@ use borrow.Author.Rules.{rules}
 use Rattle.affine.proofs.steps.check.Statement.{statement}
 use Rattle.affine.proofs.steps.check.Tie as tie
 
-centre_fits : (c : tie.Start) → SFits w64 c.args.t1.centre
+centre_fits : (c : tie.Start) → SFits w64 c.args.row.centre
 centre_fits c = search rules
 
-pair_long : (c : tie.Start) → length c.args.t1.pair ≡ pairs
+pair_long : (c : tie.Start) → length c.args.row.pair ≡ pairs
 pair_long c = search rules
 
-measure_requires : tie.Need-measure-requires
-measure_requires c κs = let s = c.before.before.before.before in (pair_long s, rw (to_z-of_z w64 _ (centre_fits s)) s.requires)
+measure_requires : tie.Need-measure-measured-requires
+measure_requires c κs = let s = c.before.before.before in (pair_long s, rw (to_z-of_z w64 _ (centre_fits s)) s.requires)
 
-abbrev start : tie.After-measure → tie.Start
-start c = c.before.before.before.before.before
+abbrev start : tie.After-measure-measured → tie.Start
+start c = c.before.before.before.before
 
-told : (c : tie.After-measure) → c.measure.result ≡ measured (start c).args.t1
-told c = rw (to_z-of_z w64 _ (centre_fits (start c))) at c.measure.ensures
+told : (c : tie.After-measure-measured) → c.measure-measured.result ≡ measured (start c).args.row
+told c = rw (to_z-of_z w64 _ (centre_fits (start c))) at c.measure-measured.ensures
 
 answer_requires : tie.Need-answer-requires
-answer_requires c κs = radius_measured (start c.before).args.t1 (told c.before)
+answer_requires c κs = radius_measured (start c.before).args.row (told c.before)
 
 returns : tie.Need-returns
-returns c = let m = c.before.before in c.answer.ensures ∙ answer_measured (start m).args.t1 (told m)
+returns c = let m = c.before.before in c.answer.ensures ∙ answer_measured (start m).args.row (told m)
 
 pub check_spec : {M : Type 1} → statement M
 check_spec = tie.close (tie.spec measure_requires answer_requires returns)

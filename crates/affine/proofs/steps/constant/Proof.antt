@@ -10,11 +10,11 @@ use borrow.Author.Rules.{rules}
 use Rattle.affine.proofs.steps.constant.Statement.{statement}
 use Rattle.affine.proofs.steps.constant.Tie as tie
 
-constant_row_requires : tie.Need-constant-row-requires
+constant_row_requires : tie.Need-constant_row-row-requires
 constant_row_requires c κs = search rules
 
-row_is : (c : tie.After-constant-row) → c.constant-row.result ≡ constant_row c.before.args.v
-row_is c = rw (to_z-of_z w64 c.before.args.v c.before.ranges.v) at c.constant-row.ensures
+row_is : (c : tie.After-constant_row-row) → c.constant_row-row.result ≡ constant_row c.before.args.v
+row_is c = rw (to_z-of_z w64 c.before.args.v c.before.ranges.v) at c.constant_row-row.ensures
 
 check_requires : tie.Need-check-requires
 check_requires c κs =

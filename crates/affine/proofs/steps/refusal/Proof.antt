@@ -4,14 +4,14 @@ use borrow.Author.Rules.{rules}
 use Rattle.affine.proofs.steps.refusal.Statement.{statement}
 use Rattle.affine.proofs.steps.refusal.Tie as tie
 
-constant_row_requires : tie.Need-constant-row-requires
+constant_row_requires : tie.Need-constant_row-row-requires
 constant_row_requires c κs = search rules
 
 returns : tie.Need-returns
 returns c =
     λ i. record {
       status = c.before.args.status;
-      row = c.constant-row.ensures i;
+      row = c.constant_row-row.ensures i;
       radius = 0;
       range = record { low = pos 0; high = pos 0 };
     }

@@ -16,66 +16,66 @@ use borrow.Author.Rules.{rules}
 use Rattle.affine.proofs.steps.subtract.Statement.{statement}
 use Rattle.affine.proofs.steps.subtract.Tie as tie
 
-first_fits : (c : tie.Start) → SFits w64 c.args.t1.centre
+first_fits : (c : tie.Start) → SFits w64 c.args.x.centre
 first_fits c = search rules
 
-second_fits : (c : tie.Start) → SFits w64 c.args.t2.centre
+second_fits : (c : tie.Start) → SFits w64 c.args.y.centre
 second_fits c = search rules
 
-difference_fits : (c : tie.Start) → SFits w64 (c.args.t1.centre -ℤ c.args.t2.centre)
+difference_fits : (c : tie.Start) → SFits w64 (c.args.x.centre -ℤ c.args.y.centre)
 difference_fits c =
-    fits_of_nat_abs (c.args.t1.centre -ℤ c.args.t2.centre)
-    (omega (arith, nat_abs_sub c.args.t1.centre c.args.t2.centre, centre_within c.args.t1 c.requires.0, centre_within c.args.t2 c.requires.1))
+    fits_of_nat_abs (c.args.x.centre -ℤ c.args.y.centre)
+    (omega (arith, nat_abs_sub c.args.x.centre c.args.y.centre, centre_within c.args.x c.requires.0, centre_within c.args.y c.requires.1))
 
-first_long : (c : tie.Start) → (length c.args.t1.linear ≡ symbols) × (length c.args.t1.pair ≡ pairs)
+first_long : (c : tie.Start) → (length c.args.x.linear ≡ symbols) × (length c.args.x.pair ≡ pairs)
 first_long c = search rules
 
-second_long : (c : tie.Start) → (length c.args.t2.linear ≡ symbols) × (length c.args.t2.pair ≡ pairs)
+second_long : (c : tie.Start) → (length c.args.y.linear ≡ symbols) × (length c.args.y.pair ≡ pairs)
 second_long c = search rules
 
-slice_aggregate_put_differences : tie.Need-slice-aggregate-put-differences
+slice_aggregate_put_differences : tie.Need-slice_bounds-put_differences-end
 slice_aggregate_put_differences c = search rules
 
-put_differences_requires : tie.Need-put-differences-requires
+put_differences_requires : tie.Need-put_differences-requires
 put_differences_requires c κs =
-    let s = c.before.before.before.before.before.before.before in
-    (((first_long s).0, (second_long s).0), (linear_within s.args.t1 s.requires.0, linear_within s.args.t2 s.requires.1))
+    let s = c.before.before.before.before.before in
+    (((first_long s).0, (second_long s).0), (linear_within s.args.x s.requires.0, linear_within s.args.y s.requires.1))
 
-slice_aggregate_put_differences_2 : tie.Need-slice-aggregate-put-differences-2
+slice_aggregate_put_differences_2 : tie.Need-slice_bounds-put_differences-end-4
 slice_aggregate_put_differences_2 c = search rules
 
-put_differences_requires_2 : tie.Need-put-differences-requires-2
+put_differences_requires_2 : tie.Need-put_differences-requires-2
 put_differences_requires_2 c κs =
-    let s = c.before.before.before.before.before.before.before.before.before.before.before.before.before.before.before.before in
-    (((first_long s).1, (second_long s).1), (pair_within s.args.t1 s.requires.0, pair_within s.args.t2 s.requires.1))
+    let s = c.before.before.before.before.before.before.before.before.before.before.before.before in
+    (((first_long s).1, (second_long s).1), (pair_within s.args.x s.requires.0, pair_within s.args.y s.requires.1))
 
 -- the row of the differences
-abbrev after_linear : tie.After-put-differences2 → tie.After-put-differences
-after_linear c = c.before.before.before.before.before.before.before.before.before
+abbrev after_linear : tie.After-put_differences-2 → tie.After-put_differences
+after_linear c = c.before.before.before.before.before.before.before
 
-abbrev start : tie.After-put-differences2 → tie.Start
-start c = (after_linear c).before.before.before.before.before.before.before.before
+abbrev start : tie.After-put_differences-2 → tie.Start
+start c = (after_linear c).before.before.before.before.before.before
 
-sub_t23 : tie.Need-overflow-sub-t23
+sub_t23 : tie.Need-overflow_sub-difference
 sub_t23 c = let s = start c.before.before.before in operation_fits ◌-ℤ◌ (first_fits s) (second_fits s) (difference_fits s)
 
-row_is : (c : tie.After-put-differences2)
+row_is : (c : tie.After-put_differences-2)
     → let g = (start c).args in
-    row_of_parts (to_z w64 (of_z w64 (to_z w64 (of_z w64 g.t1.centre) -ℤ to_z w64 (of_z w64 g.t2.centre)))) (after_linear c).put-differences.new.0 c.put-differences2.new.0
-    ≡ subtract_rows g.t1 g.t2
+    row_of_parts (to_z w64 (of_z w64 (to_z w64 (of_z w64 g.x.centre) -ℤ to_z w64 (of_z w64 g.y.centre)))) (after_linear c).put_differences.new.out c.put_differences-2.new.out
+    ≡ subtract_rows g.x g.y
 row_is c =
     let s = start c in
     λ i. record {
       centre = operation_gives ◌-ℤ◌ (first_fits s) (second_fits s) (difference_fits s) i;
-      linear = (after_linear c).put-differences.ensures i;
-      pair = c.put-differences2.ensures i;
+      linear = (after_linear c).put_differences.ensures i;
+      pair = c.put_differences-2.ensures i;
     }
 
 check_requires : tie.Need-check-requires
 check_requires c κs =
     let p = c.before.before.before in
     let s = start p in
-    span_as (row_is p) (omega (arith, span_zip ◌-ℤ◌ nat_abs_sub s.args.t1 s.args.t2, s.pre.0, s.pre.1))
+    span_as (row_is p) (omega (arith, span_zip ◌-ℤ◌ nat_abs_sub s.args.x s.args.y, s.requires.0, s.requires.1))
 
 returns : tie.Need-returns
 returns c = c.check.ensures ∙ ap checked (row_is c.before.before.before.before)

@@ -18,18 +18,18 @@ absolute_requires c κs = search rules
 added : (c : tie.After-absolute) → c.absolute.result ≡ nat_abs c.before.args.v
 added c = rw (to_z-of_z w64 _ c.before.ranges.v) at c.absolute.ensures
 
-add_s : tie.Need-overflow-add-s
+add_s : tie.Need-overflow_add-s
 add_s c = omega (arith, added c, nat_abs_of_fits c.before.args.v c.before.ranges.v)
 
-add_result : tie.Need-overflow-add-result
+add_result : tie.Need-overflow_add-result
 add_result c = search rules
 
-returns : tie.Need-returns
+returns : tie.Need-returns-then-s-le-SPAN_LIMIT
 returns c =
     let b = c.before in
     rw (added b) (sym (capped_below (b.before.args.sum + nat_abs b.before.args.v) (omega (arith, added b))))
 
-returns_2 : tie.Need-returns-2
+returns_2 : tie.Need-returns-else-s-le-SPAN_LIMIT
 returns_2 c =
     let b = c.before in
     sym (capped_above (b.before.args.sum + nat_abs b.before.args.v) (omega (arith, added b)))

@@ -10,24 +10,24 @@ use Rattle.affine.proofs.RowSize.{span_is_sum}
 use Rattle.affine.proofs.sums.within_span.Statement.{statement}
 use Rattle.affine.proofs.sums.within_span.Tie as tie
 
-centre : (c : tie.Start) → SFits w64 c.args.t1.centre
+centre : (c : tie.Start) → SFits w64 c.args.r.centre
 centre c = search rules
 
-capped_sum_requires : tie.Need-capped-sum-requires
+capped_sum_requires : tie.Need-capped_sum-s-requires
 capped_sum_requires c κs = search rules
 
-capped_absolutes_requires : tie.Need-capped-absolutes-requires
-capped_absolutes_requires c κs = rw c.before.before.before.capped-sum.ensures (capped_le _)
+capped_absolutes_requires : tie.Need-capped_absolutes-t-requires
+capped_absolutes_requires c κs = rw c.before.before.capped_sum-s.ensures (capped_le _)
 
-capped_absolutes_requires_2 : tie.Need-capped-absolutes-requires-2
-capped_absolutes_requires_2 c κs = rw c.before.before.before.capped-absolutes.ensures (capped_le _)
+capped_absolutes_requires_2 : tie.Need-capped_absolutes-u-requires
+capped_absolutes_requires_2 c κs = rw c.before.before.capped_absolutes-t.ensures (capped_le _)
 
 returns : tie.Need-returns
 returns c =
-    let l = c.before.before.before.before in
-    let s = l.before.before.before.before.before.before in
-    let r = s.args.t1 in
-    rw (c.capped-absolutes2.ensures, l.capped-absolutes.ensures, l.before.before.before.before.capped-sum.ensures, to_z-of_z w64 r.centre (centre s), span_is_sum r)
+    let l = c.before.before.before in
+    let s = l.before.before.before.before.before in
+    let r = s.args.r in
+    rw (c.capped_absolutes-u.ensures, l.capped_absolutes-t.ensures, l.before.before.before.capped_sum-s.ensures, to_z-of_z w64 r.centre (centre s), span_is_sum r)
     (capped_parts (nat_abs r.centre) (sum_abs r.linear) (sum_abs r.pair))
 
 pub within_span_spec : {M : Type 1} → statement M
