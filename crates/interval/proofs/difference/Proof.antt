@@ -13,12 +13,12 @@ low_fits s = difference_fits s.args.x.low s.args.y.high s.requires.0.low_in s.re
 high_fits : (s : tie.Start) → SFits w64 (s.args.x.high -ℤ s.args.y.low)
 high_fits s = difference_fits s.args.x.high s.args.y.low s.requires.0.high_in s.requires.1.low_in
 
-sub_low : tie.Need-overflow-sub-low
+sub_low : tie.Need-overflow_sub-low
 sub_low c =
     let l = low_fits c.before.before.before.before in
     search rules
 
-sub_high : tie.Need-overflow-sub-high
+sub_high : tie.Need-overflow_sub-high
 sub_high c =
     let h = high_fits c.before.before.before.before.before.before.before.before in
     search rules

@@ -7,16 +7,16 @@ use mir.ValLaws.{to_z-of_z}
 use Rattle.interval.proofs.lesser.Statement.{statement}
 use Rattle.interval.proofs.lesser.Tie as tie
 
-not_above : (c : tie.Then1) → le_z c.before.args.a c.before.args.b ≡ true
-not_above c = rw (to_z-of_z w64 _ c.before.ranges.a, to_z-of_z w64 _ c.before.ranges.b) at c.if1.true
+not_above : (c : tie.Then-a-b) → le_z c.before.args.a c.before.args.b ≡ true
+not_above c = rw (to_z-of_z w64 _ c.before.ranges.a, to_z-of_z w64 _ c.before.ranges.b) at c.if-a-b.true
 
-above : (c : tie.Else1) → le_z c.before.args.a c.before.args.b ≡ false
-above c = rw (to_z-of_z w64 _ c.before.ranges.a, to_z-of_z w64 _ c.before.ranges.b) at c.if1.false
+above : (c : tie.Else-a-b) → le_z c.before.args.a c.before.args.b ≡ false
+above c = rw (to_z-of_z w64 _ c.before.ranges.a, to_z-of_z w64 _ c.before.ranges.b) at c.if-a-b.false
 
-returns : tie.Need-returns
+returns : tie.Need-returns-then-a-b
 returns c = rw (to_z-of_z w64 _ c.before.ranges.a, not_above c)
 
-returns_2 : tie.Need-returns-2
+returns_2 : tie.Need-returns-else-a-b
 returns_2 c = rw (to_z-of_z w64 _ c.before.ranges.b, above c)
 
 pub lesser_spec : {M : Type 1} → statement M

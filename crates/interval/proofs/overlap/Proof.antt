@@ -8,10 +8,10 @@ use Rattle.interval.specs.Interval.{lesser, greater}
 use Rattle.interval.proofs.overlap.Statement.{statement}
 use Rattle.interval.proofs.overlap.Tie as tie
 
-greater_requires : tie.Need-greater-requires
+greater_requires : tie.Need-greater-low-requires
 greater_requires c κs = search rules
 
-lesser_requires : tie.Need-lesser-requires
+lesser_requires : tie.Need-lesser-high-requires
 lesser_requires c κs = search rules
 
 returns : tie.Need-returns
@@ -23,8 +23,8 @@ returns c =
     let x_high : to_z w64 (of_z w64 s.args.x.high) ≡ s.args.x.high = search rules in
     let y_high : to_z w64 (of_z w64 s.args.y.high) ≡ s.args.y.high = search rules in
     λ i. record {
-      low = (back g.greater.type-inv ∙ g.greater.ensures ∙ ap₂ greater x_low y_low) i;
-      high = (back c.lesser.type-inv ∙ c.lesser.ensures ∙ ap₂ lesser x_high y_high) i;
+      low = (back g.greater-low.type_inv ∙ g.greater-low.ensures ∙ ap₂ greater x_low y_low) i;
+      high = (back c.lesser-high.type_inv ∙ c.lesser-high.ensures ∙ ap₂ lesser x_high y_high) i;
     }
 
 pub overlap_spec : {M : Type 1} → statement M

@@ -14,34 +14,35 @@ use Rattle.interval.proofs.root.Statement.{statement}
 use Rattle.interval.proofs.root.Tie as tie
 
 -- the roots, which fit
+
 low_fits : (s : tie.Start) → SFits w64 (pos (unit_root s.args.x.low))
 low_fits s = fits_within _ span_limit (unit_root_limit s.requires.0 s.requires.2.low_in) (omega arith)
 
 high_fits : (s : tie.Start) → SFits w64 (pos (unit_root s.args.x.high))
 high_fits s = fits_within _ span_limit (unit_root_limit s.requires.1 s.requires.2.high_in) (omega arith)
 
-low_is : (c : tie.After-unit-root) → c.unit-root.result ≡ unit_root c.before.before.args.x.low
+low_is : (c : tie.After-unit_root-low) → c.unit_root-low.result ≡ unit_root c.before.before.args.x.low
 low_is c =
     let s = c.before.before in
     let e : to_z w64 (of_z w64 s.args.x.low) ≡ s.args.x.low = search rules in
-    c.unit-root.ensures ∙ ap unit_root e
+    c.unit_root-low.ensures ∙ ap unit_root e
 
-high_is : (c : tie.After-unit-root2) → c.unit-root2.result ≡ unit_root c.before.before.before.before.args.x.high
+high_is : (c : tie.After-unit_root-high) → c.unit_root-high.result ≡ unit_root c.before.before.before.before.args.x.high
 high_is c =
     let s = c.before.before.before.before in
     let e : to_z w64 (of_z w64 s.args.x.high) ≡ s.args.x.high = search rules in
-    c.unit-root2.ensures ∙ ap unit_root e
+    c.unit_root-high.ensures ∙ ap unit_root e
 
-unit_root_requires : tie.Need-unit-root-requires
+unit_root_requires : tie.Need-unit_root-low-requires
 unit_root_requires c κs = search rules
 
-cast_low : tie.Need-overflow-cast-low
+cast_low : tie.Need-overflow_cast-low
 cast_low c = rw (low_is c) (low_fits c.before.before)
 
-unit_root_requires_2 : tie.Need-unit-root-requires-2
+unit_root_requires_2 : tie.Need-unit_root-high-requires
 unit_root_requires_2 c κs = search rules
 
-cast_high : tie.Need-overflow-cast-high
+cast_high : tie.Need-overflow_cast-high
 cast_high c = rw (high_is c) (high_fits c.before.before.before.before)
 
 returns : tie.Need-returns

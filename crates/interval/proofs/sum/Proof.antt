@@ -13,12 +13,12 @@ low_fits s = sum_fits s.args.x.low s.args.y.low s.requires.0.low_in s.requires.1
 high_fits : (s : tie.Start) → SFits w64 (s.args.x.high +ℤ s.args.y.high)
 high_fits s = sum_fits s.args.x.high s.args.y.high s.requires.0.high_in s.requires.1.high_in
 
-add_low : tie.Need-overflow-add-low
+add_low : tie.Need-overflow_add-low
 add_low c =
     let l = low_fits c.before.before.before.before in
     search rules
 
-add_high : tie.Need-overflow-add-high
+add_high : tie.Need-overflow_add-high
 add_high c =
     let h = high_fits c.before.before.before.before.before.before.before.before in
     search rules
