@@ -13,36 +13,36 @@ use borrow.Author.Rules.{rules}
 use Rattle.evaluation.proofs.range.Statement.{statement}
 use Rattle.evaluation.proofs.range.Tie as tie
 
-asked : (c : tie.Else1) → let s = c.before.before.before in RangeAccepted s.args.table.now s.args.ranges.now s.args.count s.args.row
+asked : (c : tie.Else-refusal-ne0) → let s = c.before.before.before in RangeAccepted s.args.table.now s.args.ranges.now s.args.count s.args.row
 asked c =
     let r = c.before.before in
     let s = r.before in
-    range_accepted s.args.table.now s.args.ranges.now s.args.count s.args.row r.range-refusal.ensures c.if1.left
+    range_accepted s.args.table.now s.args.ranges.now s.args.count s.args.row r.range_refusal-refusal.ensures c.if-refusal-ne0.false
 
-range_refusal_requires : tie.Need-range-refusal-requires
+range_refusal_requires : tie.Need-range_refusal-refusal-requires
 range_refusal_requires c κs = search rules
 
-returns : tie.Need-returns
+returns : tie.Need-returns-then-refusal-ne0
 unfolding range_of
 returns c =
     let r = c.before.before in
     let s = r.before in
     refused_answer (range_refusal s.args.table.now s.args.ranges.now s.args.count s.args.row) (range_told (range_at s.args.ranges.now (s.args.row - 1)))
-    range_refused r.range-refusal.ensures c.if1.taken
+    range_refused r.range_refusal-refusal.ensures c.if-refusal-ne0.true
 
-sub_get_range : tie.Need-sub-get-range
+sub_get_range : tie.Need-overflow_sub-row
 sub_get_range c = let a = asked c in omega (arith, a.holds.from_one)
 
-get_range_requires : tie.Need-get-range-requires
+get_range_requires : tie.Need-get_range-a-requires
 get_range_requires c κs = let a = asked c in omega (arith, a.holds.from_one, a.holds.room)
 
-low_fits : (c : tie.After-struct-told) → SFits w64 c.before.get-range.result.low
+low_fits : (c : tie.After-struct_told-1) → SFits w64 c.before.get_range-a.result.low
 low_fits c = search rules
 
-high_fits : (c : tie.After-struct-told) → SFits w64 c.before.get-range.result.high
+high_fits : (c : tie.After-struct_told-1) → SFits w64 c.before.get_range-a.result.high
 high_fits c = search rules
 
-returns_2 : tie.Need-returns-2
+returns_2 : tie.Need-returns
 unfolding range_of
 returns_2 c =
     let g = c.before in
@@ -50,11 +50,11 @@ returns_2 c =
     let s = r.before in
     let refused = range_refusal s.args.table.now s.args.ranges.now s.args.count s.args.row in
     (λ i. record {
-      refusal = (r.range-refusal.ensures ∙ (asked g.before).answer) i;
-      low = (to_z-of_z w64 _ (low_fits c) ∙ ap (λ (a : Range). a.low) g.get-range.ensures) i;
-      high = (to_z-of_z w64 _ (high_fits c) ∙ ap (λ (a : Range). a.high) g.get-range.ensures) i;
+      refusal = (r.range_refusal-refusal.ensures ∙ (asked g.before).answer) i;
+      low = (to_z-of_z w64 _ (low_fits c) ∙ ap (λ (a : Range). a.low) g.get_range-a.ensures) i;
+      high = (to_z-of_z w64 _ (high_fits c) ∙ ap (λ (a : Range). a.high) g.get_range-a.ensures) i;
     })
-    ∙ told_answer refused (range_told (range_at s.args.ranges.now (s.args.row - 1))) (range_refused refused) r.range-refusal.ensures g.before.if1.left
+    ∙ told_answer refused (range_told (range_at s.args.ranges.now (s.args.row - 1))) (range_refused refused) r.range_refusal-refusal.ensures g.before.if-refusal-ne0.false
 
 pub range_spec : {M : Type 1} → statement M
 range_spec = tie.close (tie.spec range_refusal_requires returns sub_get_range get_range_requires returns_2)

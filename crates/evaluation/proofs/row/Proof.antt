@@ -10,48 +10,48 @@ use borrow.Author.Rules.{rules}
 use Rattle.evaluation.proofs.row.Statement.{statement}
 use Rattle.evaluation.proofs.row.Tie as tie
 
-asked : (c : tie.Else1) → let s = c.before.before.before in RowAccepted s.args.table.now s.args.count s.args.row
+asked : (c : tie.Else-refusal-ne0) → let s = c.before.before.before in RowAccepted s.args.table.now s.args.count s.args.row
 asked c =
     let r = c.before.before in
     let s = r.before in
-    row_accepted s.args.table.now s.args.count s.args.row r.row-refusal.ensures c.if1.false
+    row_accepted s.args.table.now s.args.count s.args.row r.row_refusal-refusal.ensures c.if-refusal-ne0.false
 
-row_refusal_requires : tie.Need-row-refusal-requires
+row_refusal_requires : tie.Need-row_refusal-refusal-requires
 row_refusal_requires c κs = search rules
 
-sub_result : tie.Need-overflow-sub-result
+sub_result : tie.Need-slice_bounds-result-count
 sub_result c = search rules
 
-part_result_start : tie.Need-slice-bounds-result-start
+part_result_start : tie.Need-slice_bounds-result-start
 part_result_start c = search rules
 
-part_result_end : tie.Need-slice-bounds-result-end
+part_result_end : tie.Need-slice_bounds-result-end
 part_result_end c = search rules
 
-returns : tie.Need-returns
+returns : tie.Need-returns-then-refusal-ne0
 unfolding part_of
 returns c =
     let b = c.before in
     let r = b.before.before in
     let s = r.before in
     refused_answer (row_refusal s.args.table.now s.args.count s.args.row) (row_part s.args.table.now (s.args.row - 1)) (λ q. [])
-    r.row-refusal.ensures b.if1.true
+    r.row_refusal-refusal.ensures b.if-refusal-ne0.true
 
-sub_row_part : tie.Need-overflow-sub-row-part
+sub_row_part : tie.Need-overflow_sub-row
 sub_row_part c = let a = asked c in omega arith
 
-row_part_requires : tie.Need-row-part-requires
+row_part_requires : tie.Need-row_part-requires
 row_part_requires c κs = let a = asked c in omega arith
 
-returns_2 : tie.Need-returns-2
+returns_2 : tie.Need-returns
 unfolding part_of
 returns_2 c =
     let b = c.before in
     let r = b.before.before in
     let s = r.before in
-    c.row-part.ensures
+    c.row_part.ensures
     ∙ told_answer (row_refusal s.args.table.now s.args.count s.args.row) (row_part s.args.table.now (s.args.row - 1)) []
-    r.row-refusal.ensures b.if1.false
+    r.row_refusal-refusal.ensures b.if-refusal-ne0.false
 
 pub row_spec : {M : Type 1} → statement M
 row_spec =

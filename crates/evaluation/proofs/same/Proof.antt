@@ -9,43 +9,43 @@ use borrow.Author.Rules.{rules}
 use Rattle.evaluation.proofs.same.Statement.{statement}
 use Rattle.evaluation.proofs.same.Tie as tie
 
-asked : (c : tie.Else1) → let s = c.before.before.before in RowsAccepted s.args.table.now s.args.count s.args.first s.args.second
+asked : (c : tie.Else-refusal-ne0) → let s = c.before.before.before in RowsAccepted s.args.table.now s.args.count s.args.first s.args.second
 asked c =
     let r = c.before.before in
     let s = r.before in
-    rows_accepted s.args.table.now s.args.count s.args.first s.args.second r.rows-refusal.ensures c.if1.false
+    rows_accepted s.args.table.now s.args.count s.args.first s.args.second r.rows_refusal-refusal.ensures c.if-refusal-ne0.false
 
-rows_refusal_requires : tie.Need-rows-refusal-requires
+rows_refusal_requires : tie.Need-rows_refusal-refusal-requires
 rows_refusal_requires c κs = search rules
 
-returns : tie.Need-returns
+returns : tie.Need-returns-then-refusal-ne0
 unfolding same_of
 returns c =
     let r = c.before.before in
     let s = r.before in
     refused_answer (rows_refusal s.args.table.now s.args.count s.args.first s.args.second)
     (compared (row_at s.args.table.now (s.args.first - 1)) (row_at s.args.table.now (s.args.second - 1))) not_compared
-    r.rows-refusal.ensures c.if1.true
+    r.rows_refusal-refusal.ensures c.if-refusal-ne0.true
 
-sub_same_rows : tie.Need-overflow-sub-same-rows
+sub_same_rows : tie.Need-overflow_sub-first
 sub_same_rows c = let a = asked c in omega arith
 
-sub_same_rows_2 : tie.Need-overflow-sub-same-rows-2
+sub_same_rows_2 : tie.Need-overflow_sub-second
 sub_same_rows_2 c = let a = asked c in omega arith
 
-same_rows_requires : tie.Need-same-rows-requires
+same_rows_requires : tie.Need-same_rows-requires
 same_rows_requires c κs = let a = asked c in (omega arith, omega arith)
 
-returns_2 : tie.Need-returns-2
+returns_2 : tie.Need-returns
 unfolding same_of
 returns_2 c =
     let b = c.before in
     let r = b.before.before in
     let s = r.before in
     let refused = rows_refusal s.args.table.now s.args.count s.args.first s.args.second in
-    (λ i. record { refusal = (r.rows-refusal.ensures ∙ (asked b).answer) i; same = c.same_rows.ensures i })
+    (λ i. record { refusal = (r.rows_refusal-refusal.ensures ∙ (asked b).answer) i; same = c.same_rows.ensures i })
     ∙ told_answer refused (compared (row_at s.args.table.now (s.args.first - 1)) (row_at s.args.table.now (s.args.second - 1))) (not_compared refused)
-    r.rows-refusal.ensures b.if1.false
+    r.rows_refusal-refusal.ensures b.if-refusal-ne0.false
 
 pub same_spec : {M : Type 1} → statement M
 same_spec =

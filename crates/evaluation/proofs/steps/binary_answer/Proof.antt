@@ -11,89 +11,89 @@ use borrow.Author.Rules.{rules}
 use Rattle.evaluation.proofs.steps.binary_answer.Statement.{statement}
 use Rattle.evaluation.proofs.steps.binary_answer.Tie as tie
 
-get_row_requires : tie.Need-get-row-requires
+get_row_requires : tie.Need-get_row-x-requires
 get_row_requires c κs = search rules
 
-get_row_requires_2 : tie.Need-get-row-requires-2
+get_row_requires_2 : tie.Need-get_row-y-requires
 get_row_requires_2 c κs = search rules
 
 add_requires : tie.Need-add-requires
 add_requires c κs =
     let p = c.before.before.before.before.requires in
-    (read_span p.1.0 p.0.2 c.before.get-row.ensures, read_span p.1.0 p.0.3 c.get-row2.ensures)
+    (read_span p.1.0 p.0.2 c.before.get_row-x.ensures, read_span p.1.0 p.0.3 c.get_row-y.ensures)
 
-returns : tie.Need-returns
+returns : tie.Need-returns-then-code-eq2
 unfolding binary_answer
 returns c =
     let t = c.before.before.before in
     c.add.ensures
-    ∙ ap₂ (λ x y. checked (add_rows x y)) c.before.before.get-row.ensures c.before.get-row2.ensures
-    ∙ rw (eq-eqb _ 2 (number_is t.before.before.ranges.code (omega arith) t.if1.true))
+    ∙ ap₂ (λ x y. checked (add_rows x y)) c.before.before.get_row-x.ensures c.before.get_row-y.ensures
+    ∙ rw (eq-eqb _ 2 (number_is t.before.before.ranges.code (omega arith) t.if-code-eq2.true))
 
-get_row_requires_3 : tie.Need-get-row-requires-3
+get_row_requires_3 : tie.Need-get_row-x-requires-then-code-eq3
 get_row_requires_3 c κs = search rules
 
-get_row_requires_4 : tie.Need-get-row-requires-4
+get_row_requires_4 : tie.Need-get_row-y-requires-then-code-eq3
 get_row_requires_4 c κs = search rules
 
 subtract_requires : tie.Need-subtract-requires
 subtract_requires c κs =
     let p = c.before.before.before.before.before.requires in
-    (read_span p.1.0 p.0.2 c.before.get-row3.ensures, read_span p.1.0 p.0.3 c.get-row4.ensures)
+    (read_span p.1.0 p.0.2 c.before.get_row-x-then-code-eq3.ensures, read_span p.1.0 p.0.3 c.get_row-y-then-code-eq3.ensures)
 
-returns_2 : tie.Need-returns-2
+returns_2 : tie.Need-returns-then-code-eq3
 unfolding binary_answer
 returns_2 c =
     let t = c.before.before.before in
     let s = t.before.before.before in
     c.subtract.ensures
-    ∙ ap₂ (λ x y. checked (subtract_rows x y)) c.before.before.get-row3.ensures c.before.get-row4.ensures
-    ∙ rw (ne_eqb _ 2 (number_is_not s.ranges.code (omega arith) t.before.if1.false), eq-eqb _ 3 (number_is s.ranges.code (omega arith) t.if2.true))
+    ∙ ap₂ (λ x y. checked (subtract_rows x y)) c.before.before.get_row-x-then-code-eq3.ensures c.before.get_row-y-then-code-eq3.ensures
+    ∙ rw (ne_eqb _ 2 (number_is_not s.ranges.code (omega arith) t.before.if-code-eq2.false), eq-eqb _ 3 (number_is s.ranges.code (omega arith) t.if-code-eq3.true))
 
-get_row_requires_5 : tie.Need-get-row-requires-5
+get_row_requires_5 : tie.Need-get_row-x-requires-2
 get_row_requires_5 c κs = search rules
 
-get_row_requires_6 : tie.Need-get-row-requires-6
+get_row_requires_6 : tie.Need-get_row-y-requires-2
 get_row_requires_6 c κs = search rules
 
 -- ---- the product: both rows read, and their radii
-abbrev rows : tie.After-shared-slice-known3 → tie.After-get-row6
+abbrev rows : tie.After-shared_slice_known-3-1 → tie.After-get_row-y-2
 rows c = c.before.before
 
-abbrev start : tie.After-get-row6 → tie.Start
+abbrev start : tie.After-get_row-y-2 → tie.Start
 start c = c.before.before.before.before.before
 
-mul_x_radius : tie.Need-overflow-mul-x-radius
+mul_x_radius : tie.Need-offset_bounds-radii-first
 mul_x_radius c = search rules
 
-shared_slice_read_x_radius : tie.Need-shared-slice-read-x-radius
+shared_slice_read_x_radius : tie.Need-bounds-radii-first
 shared_slice_read_x_radius c = let p = (start c.before).requires in read_radius_room p.1.1 p.0.2
 
-mul_y_radius : tie.Need-overflow-mul-y-radius
+mul_y_radius : tie.Need-offset_bounds-radii-second
 mul_y_radius c = search rules
 
-shared_slice_read_y_radius : tie.Need-shared-slice-read-y-radius
-shared_slice_read_y_radius c = let p = (start (rows c)).requires in read_radius_room p.1.1 p.0.3
+shared_slice_read_y_radius : tie.Need-bounds-radii-second
+shared_slice_read_y_radius c = let p = (start c.before.before).requires in read_radius_room p.1.1 p.0.3
 
 multiply_requires : tie.Need-multiply-requires
 multiply_requires c κs =
     let g = rows c in
-    let p = (start g).pre in
-    let x = g.before.get-row5.ensures in
-    let y = g.get-row6.ensures in (
+    let p = (start g).requires in
+    let x = g.before.get_row-x-2.ensures in
+    let y = g.get_row-y-2.ensures in (
       (p.0.0, p.0.1, read_span p.1.0 p.0.2 x, read_span p.1.0 p.0.3 y),
       (read_radius p.1.1 p.0.2 x, read_radius p.1.1 p.0.3 y, read_none p.1.1 p.0.2 x, read_none p.1.1 p.0.3 y),
     )
 
-returns_3 : tie.Need-returns-3
+returns_3 : tie.Need-returns
 unfolding binary_answer
 returns_3 c =
     let g = rows c.before in
     let t = g.before.before in
     let s = start g in
     c.multiply.ensures
-    ∙ ap₂ (product s.args.squares s.args.own) g.before.get-row5.ensures g.get-row6.ensures
-    ∙ rw (ne_eqb _ 2 (number_is_not s.fits.code (omega arith) t.before.if1.left), ne_eqb _ 3 (number_is_not s.fits.code (omega arith) t.if2.left))
+    ∙ ap₂ (product s.args.squares s.args.own) g.before.get_row-x-2.ensures g.get_row-y-2.ensures
+    ∙ rw (ne_eqb _ 2 (number_is_not s.ranges.code (omega arith) t.before.if-code-eq2.false), ne_eqb _ 3 (number_is_not s.ranges.code (omega arith) t.if-code-eq3.false))
 
 pub binary_answer_spec : {M : Type 1} → statement M
 binary_answer_spec =

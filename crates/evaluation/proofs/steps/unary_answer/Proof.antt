@@ -11,17 +11,17 @@ use borrow.Author.Rules.{rules}
 use Rattle.evaluation.proofs.steps.unary_answer.Statement.{statement}
 use Rattle.evaluation.proofs.steps.unary_answer.Tie as tie
 
-get_range_requires : tie.Need-get-range-requires
+get_range_requires : tie.Need-get_range-range-requires
 get_range_requires c κs = search rules
 
 -- ---- the reciprocal
-get_row_requires : tie.Need-get-row-requires
+get_row_requires : tie.Need-get_row-x-requires
 get_row_requires c κs = search rules
 
-mul_x_radius : tie.Need-overflow-mul-x-radius
+mul_x_radius : tie.Need-offset_bounds-radii-first
 mul_x_radius c = search rules
 
-shared_slice_read_x_radius : tie.Need-shared-slice-read-x-radius
+shared_slice_read_x_radius : tie.Need-bounds-radii-first
 shared_slice_read_x_radius c = search rules
 
 invert_requires : tie.Need-invert-requires
@@ -29,41 +29,41 @@ invert_requires c κs =
     let g = c.before in
     let r = g.before.before in
     let p = r.before.before.requires in
-    let x = g.get-row.ensures in (
-      (p.0.0, p.0.1, read_span p.1.0 p.0.2 x, (read_centred p.1.1 p.0.2 x r.get-range.ensures).outweighs),
+    let x = g.get_row-x.ensures in (
+      (p.0.0, p.0.1, read_span p.1.0 p.0.2 x, (read_centred p.1.1 p.0.2 x r.get_range-range.ensures).outweighs),
       (read_radius p.1.2 p.0.2 x, read_none p.1.2 p.0.2 x),
     )
 
-returns : tie.Need-returns
+returns : tie.Need-returns-then-code-eq5
 unfolding unary_answer
 returns c =
     let g = c.before.before in
     let t = g.before in
     let s = t.before.before.before in
     c.invert.ensures
-    ∙ ap₂ (reciprocal s.args.squares s.args.own) g.get-row.ensures t.before.get-range.ensures
-    ∙ rw (eq-eqb _ 5 (number_is s.ranges.code (omega arith) t.if1.true))
+    ∙ ap₂ (reciprocal s.args.squares s.args.own) g.get_row-x.ensures t.before.get_range-range.ensures
+    ∙ rw (eq-eqb _ 5 (number_is s.ranges.code (omega arith) t.if-code-eq5.true))
 
 -- ---- the root
-get_row_requires_2 : tie.Need-get-row-requires-2
+get_row_requires_2 : tie.Need-get_row-x-requires-2
 get_row_requires_2 c κs = search rules
 
-take_root_requires : tie.Need-take-root-requires
+take_root_requires : tie.Need-take_root-requires
 take_root_requires c κs =
     let r = c.before.before in
     let p = r.before.before.requires in
-    let x = c.get-row2.ensures in
-    (p.0.0, p.0.1, read_span p.1.0 p.0.2 x, read_none p.1.2 p.0.2 x, (read_centred p.1.1 p.0.2 x r.get-range.ensures).low_below)
+    let x = c.get_row-x-2.ensures in
+    (p.0.0, p.0.1, read_span p.1.0 p.0.2 x, read_none p.1.2 p.0.2 x, (read_centred p.1.1 p.0.2 x r.get_range-range.ensures).low_below)
 
-returns_2 : tie.Need-returns-2
+returns_2 : tie.Need-returns
 unfolding unary_answer
 returns_2 c =
     let g = c.before in
     let t = g.before in
     let s = t.before.before.before in
-    c.take-root.ensures
-    ∙ ap₂ (square_root s.args.squares s.args.own) g.get-row2.ensures t.before.get-range.ensures
-    ∙ rw (ne_eqb _ 5 (number_is_not s.ranges.code (omega arith) t.if1.false))
+    c.take_root.ensures
+    ∙ ap₂ (square_root s.args.squares s.args.own) g.get_row-x-2.ensures t.before.get_range-range.ensures
+    ∙ rw (ne_eqb _ 5 (number_is_not s.ranges.code (omega arith) t.if-code-eq5.false))
 
 pub unary_answer_spec : {M : Type 1} → statement M
 unary_answer_spec =

@@ -11,22 +11,22 @@ use borrow.Author.Rules.{rules}
 use Rattle.evaluation.proofs.table.get_range.Statement.{statement}
 use Rattle.evaluation.proofs.table.get_range.Tie as tie
 
-mul_base : tie.Need-mul-base
+mul_base : tie.Need-overflow_mul-base
 mul_base c = search rules
 
-mul_low : tie.Need-mul-low
+mul_low : tie.Need-offset_bounds-ranges-base
 mul_low c = search rules
 
-shared_slice_copy_out_low : tie.Need-shared-slice-copy-out-low
+shared_slice_copy_out_low : tie.Need-bounds-ranges-base
 shared_slice_copy_out_low c = search rules
 
-add_high : tie.Need-add-high
+add_high : tie.Need-overflow_add-high
 add_high c = search rules
 
-mul_high : tie.Need-mul-high
+mul_high : tie.Need-offset_bounds-ranges-base-2
 mul_high c = search rules
 
-shared_slice_copy_out_high : tie.Need-shared-slice-copy-out-high
+shared_slice_copy_out_high : tie.Need-bounds-ranges-base-2
 shared_slice_copy_out_high c = search rules
 
 returns : tie.Need-returns
@@ -36,8 +36,8 @@ returns c =
     let base = range_width * s.args.k in
     let first : base + 0 ≡ base = omega arith in
     λ i. record {
-      low = (back c.before.low.given ∙ sym (get_or_part t base range_width 0 (pos 0) (omega arith) ∙ ap (at t) first)) i;
-      high = (back c.high.given ∙ sym (get_or_part t base range_width 1 (pos 0) (omega arith))) i;
+      low = (back c.before.low-1.given ∙ sym (get_or_part t base range_width 0 (pos 0) (omega arith) ∙ ap (at t) first)) i;
+      high = (back c.high-1.given ∙ sym (get_or_part t base range_width 1 (pos 0) (omega arith))) i;
     }
 
 pub get_range_spec : {M : Type 1} → statement M

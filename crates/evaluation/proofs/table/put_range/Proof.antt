@@ -17,31 +17,31 @@ low_fits c = search rules
 high_fits : (c : tie.Start) → SFits w64 c.args.r.high
 high_fits c = search rules
 
-mul_front : tie.Need-mul-front
+mul_front : tie.Need-overflow_mul-front
 mul_front c = search rules
 
-mul_low : tie.Need-mul-low
+mul_low : tie.Need-offset_bounds-ranges-front
 mul_low c = search rules
 
-slice_set_from_low : tie.Need-slice-set-from-low
+slice_set_from_low : tie.Need-bounds-ranges-front
 slice_set_from_low c = search rules
 
-add_high : tie.Need-add-high
+add_high : tie.Need-overflow_add-high
 add_high c = search rules
 
-mul_high : tie.Need-mul-high
+mul_high : tie.Need-offset_bounds-ranges-front-2
 mul_high c = search rules
 
-slice_set_from_high : tie.Need-slice-set-from-high
-slice_set_from_high c = simp length-set (omega (arith, c.before.before.pre))
+slice_set_from_high : tie.Need-bounds-ranges-front-2
+slice_set_from_high c = simp length-set (omega (arith, c.before.before.requires))
 
-same_length : tie.Need-same-length
+same_length : tie.Need-shape_of-ranges
 same_length c = search rules
 
 returns : tie.Need-returns
 returns c =
     let s = c.before.before in
-    rw (to_z-of_z w64 _ (low_fits s), to_z-of_z w64 _ (high_fits s)) (two_pasted s.args.ranges.now (range_width * s.args.k) s.args.r.low s.args.r.high s.pre)
+    rw (to_z-of_z w64 _ (low_fits s), to_z-of_z w64 _ (high_fits s)) (two_pasted s.args.ranges.now (range_width * s.args.k) s.args.r.low s.args.r.high s.requires)
 
 pub put_range_spec : {M : Type 1} → statement M
 put_range_spec =

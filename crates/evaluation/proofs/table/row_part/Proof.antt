@@ -8,22 +8,22 @@ use borrow.Author.Rules.{rules}
 use Rattle.evaluation.proofs.table.row_part.Statement.{statement}
 use Rattle.evaluation.proofs.table.row_part.Tie as tie
 
-mul_start : tie.Need-overflow-mul-start
+mul_start : tie.Need-overflow_mul-start
 mul_start c = search rules
 
-add_end : tie.Need-overflow-add-end
+add_end : tie.Need-overflow_add-end
 add_end c = search rules
 
-mul_result : tie.Need-overflow-mul-result
+mul_result : tie.Need-offset_bounds-table-start
 mul_result c = search rules
 
-sub_result : tie.Need-overflow-sub-result
+sub_result : tie.Need-slice_bounds-result-count
 sub_result c = search rules
 
-part_result_start : tie.Need-slice-bounds-result-start
+part_result_start : tie.Need-slice_bounds-result-start
 part_result_start c = search rules
 
-part_result_end : tie.Need-slice-bounds-result-end
+part_result_end : tie.Need-slice_bounds-result-end
 part_result_end c = search rules
 
 returns : tie.Need-returns

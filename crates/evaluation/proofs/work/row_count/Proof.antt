@@ -24,8 +24,8 @@ natural_below (negsuc n) f = omega arith
 inputs_counted : (c : tie.After-natural) → c.natural.result ≡ natural c.before.before.args.c.inputs
 inputs_counted c = rw (to_z-of_z w64 _ (inputs_fit c.before.before)) at c.natural.ensures
 
-steps_counted : (c : tie.After-natural2) → c.natural2.result ≡ natural c.before.before.before.before.args.c.steps
-steps_counted c = rw (to_z-of_z w64 _ (steps_fit c.before.before.before.before)) at c.natural2.ensures
+steps_counted : (c : tie.After-natural-2) → c.natural-2.result ≡ natural c.before.before.before.before.args.c.steps
+steps_counted c = rw (to_z-of_z w64 _ (steps_fit c.before.before.before.before)) at c.natural-2.ensures
 
 natural_requires : tie.Need-natural-requires
 natural_requires c κs = search rules
@@ -33,7 +33,7 @@ natural_requires c κs = search rules
 natural_requires_2 : tie.Need-natural-requires-2
 natural_requires_2 c κs = search rules
 
-add_result : tie.Need-overflow-add-result
+add_result : tie.Need-overflow_add-result
 add_result c =
     let s = c.before.before.before.before in
     let i = natural_below s.args.c.inputs (inputs_fit s) in
