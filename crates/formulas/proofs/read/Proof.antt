@@ -17,17 +17,17 @@ use borrow.Author.Rules.{rules}
 use Rattle.formulas.proofs.read.Statement.{statement}
 use Rattle.formulas.proofs.read.Tie as tie
 
-abbrev start : tie.After-inputs-test → tie.Start
+abbrev start : tie.After-inputs_test-refusal → tie.Start
 start c = c.before.before
 
 -- inputs that pass
-passes : (c : tie.Else1) → inputs_test (start c.before.before).args.block ≡ accepted
+passes : (c : tie.Else-refusal-ne0) → inputs_test (start c.before.before).args.block ≡ accepted
 passes c =
-    let e = c.before.before.inputs-test.ensures in
-    test_accepted (sheet_of (start c.before.before).args.block) (sym (ap (λ (r : Refusal). r.number) e) ∙ c.if1.false)
+    let e = c.before.before.inputs_test-refusal.ensures in
+    test_accepted (sheet_of (start c.before.before).args.block) (sym (ap (λ (r : Refusal). r.number) e) ∙ c.if-refusal-ne0.false)
 
 -- how many they are
-abbrev tested : tie.After-natural → tie.Else1
+abbrev tested : tie.After-natural → tie.Else-refusal-ne0
 tested c = c.before.before
 
 abbrev begun : tie.After-natural → tie.Start
@@ -39,30 +39,30 @@ inputs_fit c = search rules
 inputs_are : (c : tie.After-natural) → c.natural.result ≡ natural (begun c).args.block.inputs
 inputs_are c = c.natural.ensures ∙ ap natural (to_z-of_z w64 _ (inputs_fit (begun c)))
 
-inputs_test_requires : tie.Need-inputs-test-requires
+inputs_test_requires : tie.Need-inputs_test-refusal-requires
 inputs_test_requires c κs = search rules
 
 refused_requires : tie.Need-refused-requires
 refused_requires c κs = search rules
 
-returns : tie.Need-returns
+returns : tie.Need-returns-then-refusal-ne0
 returns c =
     let b = c.before.before.before in
     let a = (start b).args in
-    let e = b.inputs-test.ensures in
-    c.refused.ensures ∙ ap refused e ∙ sym (inputs_refused a.block a.text.now (λ z. c.before.if1.true (ap (λ (r : Refusal). r.number) e ∙ z)))
+    let e = b.inputs_test-refusal.ensures in
+    c.refused.ensures ∙ ap refused e ∙ sym (inputs_refused a.block a.text.now (λ z. c.before.if-refusal-ne0.true (ap (λ (r : Refusal). r.number) e ∙ z)))
 
 natural_requires : tie.Need-natural-requires
 natural_requires c κs = search rules
 
-text_answer_requires : tie.Need-text-answer-requires
+text_answer_requires : tie.Need-text_answer-requires
 text_answer_requires c κs = let n = inputs_are c in (n, omega (arith, n, few_inputs (begun c).args.block (passes (tested c))))
 
-returns_2 : tie.Need-returns-2
+returns_2 : tie.Need-returns
 returns_2 c =
     let b = c.before in
     let a = (begun b).args in
-    c.text-answer.ensures
+    c.text_answer.ensures
     ∙ ap (λ (n : ℕ). text_answer a.block a.text.now (formula_of n a.text.now)) (inputs_are b)
     ∙ sym (answer_text a.block a.text.now (passes (tested b)))
 

@@ -27,41 +27,41 @@ counts_fit c = (search rules, search rules)
 refused_requires : tie.Need-refused-requires
 refused_requires c κs = search rules
 
-returns : tie.Need-returns
+returns : tie.Need-returns-then-count-eq0
 returns c = λ t n m.
     let a = c.before.before.args in
-    c.refused.ensures ∙ sym (no_step a.block t (sym n ∙ c.before.if1.true))
+    c.refused.ensures ∙ sym (no_step a.block t (sym n ∙ c.before.if-count-eq0.true))
 
-refused_requires_2 : tie.Need-refused-requires-2
+refused_requires_2 : tie.Need-refused-requires-then-count-gt-MAX_STEPS
 refused_requires_2 c κs = search rules
 
-returns_2 : tie.Need-returns-2
+returns_2 : tie.Need-returns-then-count-gt-MAX_STEPS
 returns_2 c = λ t n m.
     let a = c.before.before.before.args in
-    c.refused2.ensures ∙ sym (many_steps a.block t (omega (arith, n, c.before.if2.true)))
+    c.refused-then-count-gt-MAX_STEPS.ensures ∙ sym (many_steps a.block t (omega (arith, n, c.before.if-count-gt-MAX_STEPS.true)))
 
-ends_within_requires : tie.Need-ends-within-requires
+ends_within_requires : tie.Need-ends_within-ends-requires
 ends_within_requires c κs = search rules
 
-steps_from_requires : tie.Need-steps-from-requires
+steps_from_requires : tie.Need-steps_from-step-requires
 steps_from_requires c κs = search rules
 
-cast_t11 : tie.Need-overflow-cast-t11
+cast_t11 : tie.Need-overflow_cast-result
 cast_t11 c = search rules
 
-returns_3 : tie.Need-returns-3
+returns_3 : tie.Need-returns
 unfolding schedule_of
 returns_3 c = λ t n m.
     let d = c.before.before.before in
     let b = d.before.before in
     let a = b.args in
     let fits = counts_fit b in
-    let few : step_count t ≤ max_steps = omega (arith, n, d.if2.false) in
+    let few : step_count t ≤ max_steps = omega (arith, n, d.if-count-gt-MAX_STEPS.false) in
     let e = b.requires.0 in
     let steps = steps_of a.inputs t in
     let long = length_steps a.inputs t in
-    let held : c.before.steps-from.result ≡ up_to max_steps (length steps) (λ j. get_or steps j zero_step) zero_step =
-    c.before.steps-from.ensures ∙ ap steps_from m ∙ steps_read steps (omega (arith, long, few)) in
+    let held : c.before.steps_from-step.result ≡ up_to max_steps (length steps) (λ j. get_or steps j zero_step) zero_step =
+    c.before.steps_from-step.ensures ∙ ap steps_from m ∙ steps_read steps (omega (arith, long, few)) in
     ◌∙◌ {b = answered (record {
       inputs = a.block.inputs;
       squares = a.block.squares;
@@ -75,7 +75,7 @@ returns_3 c = λ t n m.
         inputs = to_z-of_z w64 a.block.inputs fits.0 i;
         squares = to_z-of_z w64 a.block.squares fits.1 i;
         steps = (to_z_pos w64 a.count (omega (arith, n, few)) ∙ ap pos n) i;
-        ends = c.before.before.ends-within.ensures i;
+        ends = c.before.before.ends_within-ends.ensures i;
         step = (held ∙ ap (λ (k : ℕ). up_to max_steps k (λ j. get_or steps j zero_step) zero_step) long) i;
       };
     })
@@ -86,7 +86,7 @@ returns_3 c = λ t n m.
       ends = ends_within k a.block.ends;
       step = up_to max_steps (step_count t) (λ j. get_or (steps_of k t) j zero_step) zero_step;
     })) e
-    ∙ sym (some_steps a.block t (λ z. d.before.if1.false (n ∙ z)) few))
+    ∙ sym (some_steps a.block t (λ z. d.before.if-count-eq0.false (n ∙ z)) few))
 
 pub steps_answer_spec : {M : Type 1} → statement M
 steps_answer_spec =

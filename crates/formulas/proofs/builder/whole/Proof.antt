@@ -14,89 +14,90 @@ use Rattle.formulas.proofs.builder.whole.Statement.{statement}
 use Rattle.formulas.proofs.builder.whole.Tie as tie
 
 -- the length of the front
-end_few : (c : tie.After-front-length) → c.front_length.result ≤ max_text
-end_few c = let n = length c.before.before.args.text.now in omega (arith, c.front_length.ensures, (front_length_lem n).few)
 
-front_is : (c : tie.After-front-length) → length (take c.front_length.result c.before.before.args.text.now) ≡ c.front_length.result
-front_is c = let s = c.before.before.args.text.now in length-take-le _ s (omega (arith, c.front_length.ensures, (front_length_lem (length s)).within))
+end_few : (c : tie.After-front_length-end) → c.front_length-end.result ≤ max_text
+end_few c = let n = length c.before.before.args.text.now in omega (arith, c.front_length-end.ensures, (front_length_lem n).few)
+
+front_is : (c : tie.After-front_length-end) → length (take c.front_length-end.result c.before.before.args.text.now) ≡ c.front_length-end.result
+front_is c = let s = c.before.before.args.text.now in length-take-le _ s (omega (arith, c.front_length-end.ensures, (front_length_lem (length s)).within))
 
 -- what was read of it
-abbrev begun : tie.After-chain → tie.After-front-length
-begun c = c.before.before.before
+abbrev begun : tie.After-chain-part → tie.After-front_length-end
+begun c = c.before.before
 
-abbrev start : tie.After-chain → tie.Start
+abbrev start : tie.After-chain-part → tie.Start
 start c = (begun c).before.before
 
-abbrev after : tie.After-chain → List ℤ
-after c = c.chain.new.1.1.1.1.1.1.1.0
+abbrev after : tie.After-chain-part → List ℤ
+after c = c.chain-part.new.1.1.1.1.1.1.1.0
 
-front_read : (c : tie.After-chain) → let a = (start c).args in PartRead (front a.inputs a.text.now) a.inputs 2 max_nesting 0 0 0 a.numbers.now (after c) c.chain.result
+front_read : (c : tie.After-chain-part) → let a = (start c).args in PartRead (front a.inputs a.text.now) a.inputs 2 max_nesting 0 0 0 a.numbers.now (after c) c.chain-part.result
 front_read c =
     let a = (start c).args in
-    subst (λ (n : ℕ). PartRead (take n a.text.now) a.inputs 2 max_nesting 0 0 0 a.numbers.now (after c) c.chain.result) (begun c).front_length_lem.ensures c.chain.ensures
+    subst (λ (n : ℕ). PartRead (take n a.text.now) a.inputs 2 max_nesting 0 0 0 a.numbers.now (after c) c.chain-part.result) (begun c).front_length.ensures c.chain-part.ensures
 
-front_end : (c : tie.After-chain) → length (front (start c).args.inputs (start c).args.text.now) ≡ (begun c).front_length_lem.result
-front_end c = subst (λ (n : ℕ). length (take n (start c).args.text.now) ≡ (begun c).front_length_lem.result) (begun c).front_length_lem.ensures (front_is (begun c))
+front_end : (c : tie.After-chain-part) → length (front (start c).args.inputs (start c).args.text.now) ≡ (begun c).front_length.result
+front_end c = subst (λ (n : ℕ). length (take n (start c).args.text.now) ≡ (begun c).front_length.result) (begun c).front_length.ensures (front_is (begun c))
 
-front_length_requires : tie.Need-front-length-requires
+front_length_requires : tie.Need-front_length-end-requires
 front_length_requires c κs = search rules
 
-slice_aggregate_front : tie.Need-slice-aggregate-front
-slice_aggregate_front c = sym (front_is c.before)
+slice_aggregate_front : tie.Need-slice_bounds-front-end
+slice_aggregate_front c = sym (front_is c)
 
-chain_requires : tie.Need-chain-requires
+chain_requires : tie.Need-chain-part-requires
 chain_requires c κs =
     let b = c.before.before in
-    let a = b.before.before in
+    let a = b.before in
     (a.requires.0, record { short = rw (front_is b) (end_few b); few_inputs = a.requires.1; few_steps = omega arith; inside = omega arith })
 
-same_length : tie.Need-same-length
+same_length : tie.Need-shape_of-numbers-then-part-ne0
 same_length c = search rules
 
-returns : tie.Need-returns
-returns c = let d = c.before.before.before in let a = (start d).args in whole_breaks a.inputs a.text.now a.numbers.now (after d) d.chain.result (front_read d) c.if1.true
+returns : tie.Need-returns-then-part-ne0
+returns c = let d = c.before.before.before in let a = (start d).args in whole_breaks a.inputs a.text.now a.numbers.now (after d) d.chain-part.result (front_read d) c.if-part-ne0.true
 
-wrong_at_requires : tie.Need-wrong-at-requires
-wrong_at_requires c κs = let d = c.before.before.before.before.before in omega (arith, c.if2.true, end_few (begun d))
+wrong_at_requires : tie.Need-wrong_at-requires
+wrong_at_requires c κs = let d = c.before.before.before.before.before in omega (arith, c.if-part-end.true, end_few (begun d))
 
-same_length_2 : tie.Need-same-length-2
+same_length_2 : tie.Need-shape_of-numbers-then-part-end
 same_length_2 c = search rules
 
-returns_2 : tie.Need-returns-2
+returns_2 : tie.Need-returns-then-part-end
 returns_2 c =
     let e = c.before.before.before in
     let d = e.before.before.before in
     let a = (start d).args in
-    whole_behind a.inputs a.text.now a.numbers.now (after d) d.chain.result (front_read d) e.if1.false
-    (omega (arith, front_end d, c.before.if2.true)) c.wrong-at.result c.wrong-at.ensures
+    whole_behind a.inputs a.text.now a.numbers.now (after d) d.chain-part.result (front_read d) e.if-part-ne0.false
+    (omega (arith, front_end d, c.before.if-part-end.true)) c.wrong_at.result c.wrong_at.ensures
 
-wrong_at_requires_2 : tie.Need-wrong-at-requires-2
+wrong_at_requires_2 : tie.Need-wrong_at-requires-then-end-text
 wrong_at_requires_2 c κs = let d = c.before.before.before.before.before.before in omega (arith, end_few (begun d))
 
-same_length_3 : tie.Need-same-length-3
+same_length_3 : tie.Need-shape_of-numbers-then-end-text
 same_length_3 c = search rules
 
-returns_3 : tie.Need-returns-3
+returns_3 : tie.Need-returns-then-end-text
 returns_3 c =
     let l = c.before.before in
     let e = l.before.before in
     let d = e.before.before.before in
     let a = (start d).args in
-    let n = (begun d).front_length_lem.ensures in
-    whole_cut a.inputs a.text.now a.numbers.now (after d) d.chain.result (front_read d) e.if1.false
-    (omega (arith, front_end d, l.if2.false)) (omega (arith, n, c.before.if3.true)) c.wrong-at2.result (c.wrong-at2.ensures ∙ ap suc n)
+    let n = (begun d).front_length.ensures in
+    whole_cut a.inputs a.text.now a.numbers.now (after d) d.chain-part.result (front_read d) e.if-part-ne0.false
+    (omega (arith, front_end d, l.if-part-end.false)) (omega (arith, n, c.before.if-end-text.true)) c.wrong_at-then-end-text.result (c.wrong_at-then-end-text.ensures ∙ ap suc n)
 
-same_length_4 : tie.Need-same-length-4
+same_length_4 : tie.Need-shape_of-numbers
 same_length_4 c = search rules
 
-returns_4 : tie.Need-returns-4
+returns_4 : tie.Need-returns
 returns_4 c =
     let l = c.before in
     let e = l.before.before in
     let d = e.before.before.before in
     let a = (start d).args in
-    whole_right a.inputs a.text.now a.numbers.now (after d) d.chain.result (front_read d) e.if1.false
-    (omega (arith, front_end d, l.if2.false)) (omega (arith, (begun d).front_length_lem.ensures, c.if3.false))
+    whole_right a.inputs a.text.now a.numbers.now (after d) d.chain-part.result (front_read d) e.if-part-ne0.false
+    (omega (arith, front_end d, l.if-part-end.false)) (omega (arith, (begun d).front_length.ensures, c.if-end-text.false))
 
 pub whole_spec : {M : Type 1} → statement M
 whole_spec =

@@ -6,16 +6,16 @@ use borrow.Author.Rules.{rules}
 use Rattle.formulas.proofs.steps.step_of.Statement.{statement}
 use Rattle.formulas.proofs.steps.step_of.Tie as tie
 
-cast_t5 : tie.Need-overflow-cast-t5
+cast_t5 : tie.Need-overflow_cast-result
 cast_t5 c = search rules
 
-cast_t6 : tie.Need-overflow-cast-t6
+cast_t6 : tie.Need-overflow_cast-result-2
 cast_t6 c = search rules
 
-cast_t7 : tie.Need-overflow-cast-t7
+cast_t7 : tie.Need-overflow_cast-result-3
 cast_t7 c = search rules
 
-cast_t8 : tie.Need-overflow-cast-t8
+cast_t8 : tie.Need-overflow_cast-result-4
 cast_t8 c = search rules
 
 returns : tie.Need-returns
