@@ -29,15 +29,15 @@ abbrev start : tie.After-chain-part → tie.Start
 start c = (begun c).before.before
 
 abbrev after : tie.After-chain-part → List ℤ
-after c = c.chain-part.new.1.1.1.1.1.1.1.0
+after c = c.chain-part.new.numbers
 
 front_read : (c : tie.After-chain-part) → let a = (start c).args in PartRead (front a.inputs a.text.now) a.inputs 2 max_nesting 0 0 0 a.numbers.now (after c) c.chain-part.result
 front_read c =
     let a = (start c).args in
-    subst (λ (n : ℕ). PartRead (take n a.text.now) a.inputs 2 max_nesting 0 0 0 a.numbers.now (after c) c.chain-part.result) (begun c).front_length.ensures c.chain-part.ensures
+    subst (λ (n : ℕ). PartRead (take n a.text.now) a.inputs 2 max_nesting 0 0 0 a.numbers.now (after c) c.chain-part.result) (begun c).front_length-end.ensures c.chain-part.ensures
 
-front_end : (c : tie.After-chain-part) → length (front (start c).args.inputs (start c).args.text.now) ≡ (begun c).front_length.result
-front_end c = subst (λ (n : ℕ). length (take n (start c).args.text.now) ≡ (begun c).front_length.result) (begun c).front_length.ensures (front_is (begun c))
+front_end : (c : tie.After-chain-part) → length (front (start c).args.inputs (start c).args.text.now) ≡ (begun c).front_length-end.result
+front_end c = subst (λ (n : ℕ). length (take n (start c).args.text.now) ≡ (begun c).front_length-end.result) (begun c).front_length-end.ensures (front_is (begun c))
 
 front_length_requires : tie.Need-front_length-end-requires
 front_length_requires c κs = search rules
@@ -47,8 +47,8 @@ slice_aggregate_front c = sym (front_is c)
 
 chain_requires : tie.Need-chain-part-requires
 chain_requires c κs =
-    let b = c.before.before in
-    let a = b.before in
+    let b = c.before in
+    let a = b.before.before in
     (a.requires.0, record { short = rw (front_is b) (end_few b); few_inputs = a.requires.1; few_steps = omega arith; inside = omega arith })
 
 same_length : tie.Need-shape_of-numbers-then-part-ne0
@@ -83,7 +83,7 @@ returns_3 c =
     let e = l.before.before in
     let d = e.before.before.before in
     let a = (start d).args in
-    let n = (begun d).front_length.ensures in
+    let n = (begun d).front_length-end.ensures in
     whole_cut a.inputs a.text.now a.numbers.now (after d) d.chain-part.result (front_read d) e.if-part-ne0.false
     (omega (arith, front_end d, l.if-part-end.false)) (omega (arith, n, c.before.if-end-text.true)) c.wrong_at-then-end-text.result (c.wrong_at-then-end-text.ensures ∙ ap suc n)
 
@@ -97,7 +97,7 @@ returns_4 c =
     let d = e.before.before.before in
     let a = (start d).args in
     whole_right a.inputs a.text.now a.numbers.now (after d) d.chain-part.result (front_read d) e.if-part-ne0.false
-    (omega (arith, front_end d, l.if-part-end.false)) (omega (arith, (begun d).front_length.ensures, c.if-end-text.false))
+    (omega (arith, front_end d, l.if-part-end.false)) (omega (arith, (begun d).front_length-end.ensures, c.if-end-text.false))
 
 pub whole_spec : {M : Type 1} → statement M
 whole_spec =

@@ -13,26 +13,26 @@ use borrow.Author.Rules.{rules}
 use Rattle.listing.proofs.rows.own_coefficient.Statement.{statement}
 use Rattle.listing.proofs.rows.own_coefficient.Tie as tie
 
-sub_row_part : tie.Need-overflow-sub-row-part
+sub_row_part : tie.Need-overflow_sub-row
 sub_row_part c = search rules
 
-row_part_requires : tie.Need-row-part-requires
+row_part_requires : tie.Need-row_part-numbers-requires
 row_part_requires c κs = search rules
 
-mul_result : tie.Need-overflow-mul-result
+mul_result : tie.Need-offset_bounds-numbers-row
 mul_result c = search rules
 
-shared_slice_copy_out_result : tie.Need-shared-slice-copy-out-result
+shared_slice_copy_out_result : tie.Need-bounds-numbers-row
 shared_slice_copy_out_result c =
     let s = c.before in
-    let long = ap length c.row-part.ensures ∙ length_part s.args.table.now (row_width * (s.args.row - 1)) row_width (row_room s.requires) in
+    let long = ap length c.row_part-numbers.ensures ∙ length_part s.args.table.now (row_width * (s.args.row - 1)) row_width (row_room s.requires) in
     omega (arith, long)
 
 returns : tie.Need-returns
 returns c =
     let p = c.before in
     let s = p.before in
-    to_z-of_z w64 _ (record { sfits = c.result.given }) ∙ ap (λ l. at l s.args.row) p.row-part.ensures ∙ sym (row_own s.requires)
+    to_z-of_z w64 _ (record { sfits = c.result-1.given }) ∙ ap (λ l. at l s.args.row) p.row_part-numbers.ensures ∙ sym (row_own s.requires)
 
 pub own_coefficient_spec : {M : Type 1} → statement M
 own_coefficient_spec =

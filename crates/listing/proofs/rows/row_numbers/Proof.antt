@@ -15,30 +15,30 @@ use borrow.Author.Rules.{rules}
 use Rattle.listing.proofs.rows.row_numbers.Statement.{statement}
 use Rattle.listing.proofs.rows.row_numbers.Tie as tie
 
-sub_get_range : tie.Need-overflow-sub-get-range
+sub_get_range : tie.Need-overflow_sub-row
 sub_get_range c = omega (arith, c.requires.0.from_one)
 
-get_range_requires : tie.Need-get-range-requires
+get_range_requires : tie.Need-get_range-range-requires
 get_range_requires c κs = omega (arith, c.requires.0.from_one, c.requires.0.up_to_lem, c.requires.1.room)
 
-own_coefficient_requires : tie.Need-own-coefficient-requires
+own_coefficient_requires : tie.Need-own_coefficient-own-requires
 own_coefficient_requires c κs = search rules
 
-first_same_requires : tie.Need-first-same-requires
+first_same_requires : tie.Need-first_same-same-requires
 first_same_requires c κs = search rules
 
-cast_t9 : tie.Need-overflow-cast-t9
+cast_t9 : tie.Need-overflow_cast-result
 cast_t9 c = search rules
 
-cast_t10 : tie.Need-overflow-cast-t10
+cast_t10 : tie.Need-overflow_cast-result-2
 cast_t10 c =
     let s = c.before.before.before in
-    record { sfits = omega (arith, c.first-same.ensures, first_small s.args.table.now s.args.count s.args.row (s.args.row - 1) 1) }
+    record { sfits = omega (arith, c.first_same-same.ensures, first_small s.args.table.now s.args.count s.args.row (s.args.row - 1) 1) }
 
-low_fits : (c : tie.After-struct-told) → SFits w64 c.before.before.before.get-range.result.low
+low_fits : (c : tie.After-struct_told-1) → SFits w64 c.before.before.before.get_range-range.result.low
 low_fits c = search rules
 
-high_fits : (c : tie.After-struct-told) → SFits w64 c.before.before.before.get-range.result.high
+high_fits : (c : tie.After-struct_told-1) → SFits w64 c.before.before.before.get_range-range.result.high
 high_fits c = search rules
 
 returns : tie.Need-returns
@@ -49,10 +49,10 @@ returns c =
     let s = g.before in
     let told = row_range s.requires.0 s.requires.1 in
     λ i. to_z-of_z w64 (pos s.args.row) (cast_t9 f) i
-    ∷ (to_z-of_z w64 _ (low_fits c) ∙ ap (λ (a : Range). a.low) g.get-range.ensures ∙ sym (ap (λ (a : RangeAnswer). a.low) told)) i
-    ∷ (to_z-of_z w64 _ (high_fits c) ∙ ap (λ (a : Range). a.high) g.get-range.ensures ∙ sym (ap (λ (a : RangeAnswer). a.high) told)) i
-    ∷ (to_z-of_z w64 _ (record { sfits = o.own-coefficient.type-inv }) ∙ o.own-coefficient.ensures) i
-    ∷ (to_z-of_z w64 (pos f.first-same.result) (cast_t10 f) ∙ ap pos f.first-same.ensures) i
+    ∷ (to_z-of_z w64 _ (low_fits c) ∙ ap (λ (a : Range). a.low) g.get_range-range.ensures ∙ sym (ap (λ (a : RangeAnswer). a.low) told)) i
+    ∷ (to_z-of_z w64 _ (high_fits c) ∙ ap (λ (a : Range). a.high) g.get_range-range.ensures ∙ sym (ap (λ (a : RangeAnswer). a.high) told)) i
+    ∷ (to_z-of_z w64 _ (record { sfits = o.own_coefficient-own.type_inv }) ∙ o.own_coefficient-own.ensures) i
+    ∷ (to_z-of_z w64 (pos f.first_same-same.result) (cast_t10 f) ∙ ap pos f.first_same-same.ensures) i
     ∷ []
 
 pub row_numbers_spec : {M : Type 1} → statement M

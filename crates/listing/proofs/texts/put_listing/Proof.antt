@@ -7,28 +7,25 @@ use borrow.Author.Rules.{rules}
 use Rattle.listing.proofs.texts.put_listing.Statement.{statement}
 use Rattle.listing.proofs.texts.put_listing.Tie as tie
 
-slice_aggregate_put_bytes : tie.Need-slice-aggregate-put-bytes
-slice_aggregate_put_bytes c = search rules
-
-put_bytes_requires : tie.Need-put-bytes-requires
+put_bytes_requires : tie.Need-put_bytes-at-requires
 put_bytes_requires c κs = search rules
 
-put_rows_requires : tie.Need-put-rows-requires
+put_rows_requires : tie.Need-put_rows-requires
 put_rows_requires c κs =
     let f = c.before.before.before in
-    let s = f.before.before.before.before in
-    (s.pre.0, omega (arith, f.put-bytes.ensures.ends, f.put-bytes.kept.0, rows_short s.args.table.now s.args.ranges.now s.args.count, s.pre.0.0.few, s.pre.1))
+    let s = f.before.before.before.before.before in
+    (s.requires.0, omega (arith, f.put_bytes-at.ensures.ends, f.put_bytes-at.kept.0, rows_short s.args.table.now s.args.ranges.now s.args.count, s.requires.0.0.few, s.requires.1))
 
-same_length : tie.Need-same-length
+same_length : tie.Need-shape_of-text
 same_length c = search rules
 
 returns : tie.Need-returns
 unfolding listing
 returns c =
     let g = c.before.before in
-    wrote_then g.before.before.before.before.put-bytes.ensures g.put-rows.ensures
+    wrote_then g.before.before.before.before.put_bytes-at.ensures g.put_rows.ensures
 
 pub put_listing_spec : {M : Type 1} → statement M
 put_listing_spec =
     tie.close
-    (tie.spec slice_aggregate_put_bytes put_bytes_requires put_rows_requires same_length returns)
+    (tie.spec put_bytes_requires put_rows_requires same_length returns)

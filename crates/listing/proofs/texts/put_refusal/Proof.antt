@@ -24,79 +24,67 @@ then : {a b c : List ℕ} {j k most : ℕ} {xs ys : List ℕ} (n : ℕ) → SoFa
     → SoFar a c k (most + n) (xs ++ ys)
 then n s l h w = record { kept = l ∙ s.kept; short = omega (arith, s.short, w.ends); wrote = wrote_then s.wrote w }
 
-names_put : (c : tie.After-put-bytes)
-    → SoFar c.before.before.before.before.args.text.now c.put-bytes.new.0 c.put-bytes.result 14 refusal_names
-names_put c = record { kept = c.put-bytes.auto.0; short = omega (arith, c.put-bytes.ensures.ends); wrote = c.put-bytes.ensures }
+names_put : (c : tie.After-put_bytes-at)
+    → SoFar c.before.before.before.before.before.args.text.now c.put_bytes-at.new.out c.put_bytes-at.result 14 refusal_names
+names_put c = record { kept = c.put_bytes-at.auto.out; short = omega (arith, c.put_bytes-at.ensures.ends); wrote = c.put_bytes-at.ensures }
 
-number_put : (c : tie.After-put-count)
-    → let s = c.before.before.before.before.before.before.before.before in
-    SoFar s.args.text.now c.put_count.new.0 c.put_count.result 25 (refusal_names ++ numeral (pos s.args.refusal.number))
-number_put c = then 11 (names_put c.before.before.before.before) c.put_count.auto.0 (numeral_short _) c.put_count.ensures
+number_put : (c : tie.After-put_count-at)
+    → let s = c.before.before.before.before.before.before.before.before.before in
+    SoFar s.args.text.now c.put_count-at.new.out c.put_count-at.result 25 (refusal_names ++ numeral (pos s.args.refusal.number))
+number_put c = then 11 (names_put c.before.before.before.before) c.put_count-at.auto.out (numeral_short _) c.put_count-at.ensures
 
-space_put : (c : tie.After-put-bytes2)
-    → let s = c.before.before.before.before.before.before.before.before.before.before.before.before.before in
-    SoFar s.args.text.now c.put-bytes2.new.0 c.put-bytes2.result 26 ((refusal_names ++ numeral (pos s.args.refusal.number)) ++ (32 ∷ []))
-space_put c = then 1 (number_put c.before.before.before.before.before) c.put-bytes2.auto.0 (omega arith) c.put-bytes2.ensures
+space_put : (c : tie.After-put_bytes-at-2)
+    → let s = c.before.before.before.before.before.before.before.before.before.before.before.before.before.before.before in
+    SoFar s.args.text.now c.put_bytes-at-2.new.out c.put_bytes-at-2.result 26 ((refusal_names ++ numeral (pos s.args.refusal.number)) ++ (32 ∷ []))
+space_put c = then 1 (number_put c.before.before.before.before.before.before) c.put_bytes-at-2.auto.out (omega arith) c.put_bytes-at-2.ensures
 
-place_put : (c : tie.After-put-count2)
-    → let s = c.before.before.before.before.before.before.before.before.before.before.before.before.before.before.before.before.before in
-    SoFar s.args.text.now c.put-count2.new.0 c.put-count2.result 37
+place_put : (c : tie.After-put_count-at-2)
+    → let s = c.before.before.before.before.before.before.before.before.before.before.before.before.before.before.before.before.before.before.before in
+    SoFar s.args.text.now c.put_count-at-2.new.out c.put_count-at-2.result 37
     (((refusal_names ++ numeral (pos s.args.refusal.number)) ++ (32 ∷ [])) ++ numeral (pos s.args.refusal.place))
-place_put c = then 11 (space_put c.before.before.before.before) c.put-count2.auto.0 (numeral_short _) c.put-count2.ensures
+place_put c = then 11 (space_put c.before.before.before.before) c.put_count-at-2.auto.out (numeral_short _) c.put_count-at-2.ensures
 
-slice_aggregate_put_bytes : tie.Need-slice-aggregate-put-bytes
-slice_aggregate_put_bytes c = search rules
-
-put_bytes_requires : tie.Need-put-bytes-requires
+put_bytes_requires : tie.Need-put_bytes-at-requires
 put_bytes_requires c κs = search rules
 
-put_count_requires : tie.Need-put-count-requires
+put_count_requires : tie.Need-put_count-at-requires
 put_count_requires c κs =
     let f = names_put c.before.before.before in
-    omega (arith, f.kept, f.short, numeral_short (pos c.before.before.before.before.before.before.before.args.refusal.number))
+    omega (arith, f.kept, f.short, numeral_short (pos c.before.before.before.before.before.before.before.before.args.refusal.number))
 
-slice_aggregate_put_bytes_2 : tie.Need-slice-aggregate-put-bytes-2
-slice_aggregate_put_bytes_2 c = search rules
-
-put_bytes_requires_2 : tie.Need-put-bytes-requires-2
+put_bytes_requires_2 : tie.Need-put_bytes-at-requires-2
 put_bytes_requires_2 c κs =
-    let f = number_put c.before.before.before.before in
+    let f = number_put c.before.before.before.before.before in
     omega (arith, f.kept, f.short)
 
-put_count_requires_2 : tie.Need-put-count-requires-2
+put_count_requires_2 : tie.Need-put_count-at-requires-2
 put_count_requires_2 c κs =
     let f = space_put c.before.before.before in
-    omega (arith, f.kept, f.short, numeral_short (pos c.before.before.before.before.before.before.before.before.before.before.before.before.before.before.before.before.args.refusal.place))
+    omega (arith, f.kept, f.short, numeral_short (pos c.before.before.before.before.before.before.before.before.before.before.before.before.before.before.before.before.before.before.args.refusal.place))
 
-slice_aggregate_put_bytes_3 : tie.Need-slice-aggregate-put-bytes-3
-slice_aggregate_put_bytes_3 c = search rules
-
-put_bytes_requires_3 : tie.Need-put-bytes-requires-3
+put_bytes_requires_3 : tie.Need-put_bytes-requires
 put_bytes_requires_3 c κs =
-    let f = place_put c.before.before.before.before in
+    let f = place_put c.before.before.before.before.before in
     omega (arith, f.kept, f.short)
 
-same_length : tie.Need-same-length
+same_length : tie.Need-shape_of-text
 same_length c = search rules
 
 returns : tie.Need-returns
 unfolding refusal_text line
 returns c =
     let f = c.before.before in
-    let w = then 1 (place_put f.before.before.before.before.before) f.put-bytes3.auto.0 (omega arith) f.put-bytes3.ensures in
+    let w = then 1 (place_put f.before.before.before.before.before.before) f.put_bytes.auto.out (omega arith) f.put_bytes.ensures in
     simp append_assoc at w.wrote
 
 pub put_refusal_spec : {M : Type 1} → statement M
 put_refusal_spec =
     tie.close
     (tie.spec
-    slice_aggregate_put_bytes
     put_bytes_requires
     put_count_requires
-    slice_aggregate_put_bytes_2
     put_bytes_requires_2
     put_count_requires_2
-    slice_aggregate_put_bytes_3
     put_bytes_requires_3
     same_length
     returns)
