@@ -9,10 +9,10 @@ use Rattle.listing.proofs.list.Tie as tie
 
 -- the reading as the code has it, refused or accepted
 
-refused : (c : tie.Then-refusal-ne0) → (read_of c.before.before.before.before.before.before.before.before).refusal.number ≡ 0 → ⊥
+refused : (c : tie.Then-refusal-ne0) → (read_of c.before.before.before.before.before.before.before.before.args.sheet.now).refusal.number ≡ 0 → ⊥
 refused c z = c.if-refusal-ne0.true (ap (λ (a : ReadAnswer). a.refusal.number) c.before.before.before.before.read-answer.ensures ∙ z)
 
-read : (c : tie.Else-refusal-ne0) → (read_of c.before.before.before.before.before.before.before.before).refusal.number ≡ 0
+read : (c : tie.Else-refusal-ne0) → (read_of c.before.before.before.before.before.before.before.before.args.sheet.now).refusal.number ≡ 0
 read c = ap (λ (a : ReadAnswer). a.refusal.number) (sym c.before.before.before.before.read-answer.ensures) ∙ c.if-refusal-ne0.false
 
 returns : tie.Need-returns-then-text-lt-TEXT_ROOM

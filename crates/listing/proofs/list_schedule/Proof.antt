@@ -71,8 +71,8 @@ row_count_requires c κs = search rules
 
 put_listing_requires : tie.Need-put_listing-requires
 put_listing_requires c κs =
-    let t = c.before.before.before.before in
-    let e = called t in
+    let t = c.before.before in
+    let e = called t.before in
     let s = start e in
     let schedule = s.args.schedule in
     let table = s.args.table.now in
@@ -95,8 +95,8 @@ returns_2 : tie.Need-returns
 returns_2 c =
     let p = c.before.before in
     let n = p.before in
-    let t = n.before.before.before.before in
-    let e = called t in
+    let t = n.before.before in
+    let e = called t.before in
     let s = start e in (
       rw (schedule_listed s.args.schedule s.args.table.now s.args.ranges.now (went t))
           (listing_wrote e.evaluate-refusal.ensures.1.0 e.evaluate-refusal.ensures.1.1 n.row_count.ensures p.put_listing.ensures),

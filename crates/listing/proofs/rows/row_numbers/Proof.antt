@@ -19,7 +19,7 @@ sub_get_range : tie.Need-overflow_sub-row
 sub_get_range c = omega (arith, c.requires.0.from_one)
 
 get_range_requires : tie.Need-get_range-range-requires
-get_range_requires c κs = omega (arith, c.requires.0.from_one, c.requires.0.up_to_lem, c.requires.1.room)
+get_range_requires c κs = omega (arith, c.requires.0.from_one, c.requires.0.up_to, c.requires.1.room)
 
 own_coefficient_requires : tie.Need-own_coefficient-own-requires
 own_coefficient_requires c κs = search rules

@@ -14,7 +14,7 @@ put_rows_requires : tie.Need-put_rows-requires
 put_rows_requires c κs =
     let f = c.before.before.before in
     let s = f.before.before.before.before.before in
-    (s.requires.0, omega (arith, f.put_bytes-at.ensures.ends, f.put_bytes-at.kept.0, rows_short s.args.table.now s.args.ranges.now s.args.count, s.requires.0.0.few, s.requires.1))
+    (s.requires.0, omega (arith, f.put_bytes-at.ensures.ends, f.put_bytes-at.auto.out, rows_short s.args.table.now s.args.ranges.now s.args.count, s.requires.0.0.few, s.requires.1))
 
 same_length : tie.Need-shape_of-text
 same_length c = search rules
