@@ -12,8 +12,7 @@ use Rattle.integer.specs.Nearest.{nearest_quotient}
 use Rattle.integer.proofs.Absolute.{nat_abs_add, nat_abs_of_fits, fits_of_nat_abs}
 use Rattle.integer.proofs.Floor.{nat_abs_quotient_product, shift_is_floor}
 use Rattle.integer.proofs.NearestLaws.{nearest_by_halves}
-use Rattle.integer.proofs.division.nearest_quotient_4096.Statement.{statement}
-use Rattle.integer.proofs.division.nearest_quotient_4096.Tie as tie
+use Rattle.integer.proofs.division.nearest_quotient_4096.Goals as goal
 
 halves_fit : (a : ℤ) → SFits w64 a → SFits w64 (shr_z a 2048)
 halves_fit a f = sfits_le (mag_shr a 2048) f
@@ -31,18 +30,13 @@ more_fits a f =
     (fits_of_nat_abs (floor_quotient a (pos 2048) +ℤ more)
     (omega (arith, nat_abs_add (floor_quotient a (pos 2048)) more, nat_abs_quotient_product a (pos 2048) half, nat_abs_of_fits a f)))
 
-shifts_are_nearest : (a : ℤ) → shr_z (shr_z a 2048 +ℤ more) 2 ≡ nearest_quotient a 4096
-shifts_are_nearest a = shift_is_floor _ 2 ∙ ap (λ z. floor_quotient (z +ℤ more) (pos 2)) (shift_is_floor a 2048) ∙ nearest_by_halves a 2048 (omega arith)
+pub overflow_add-result : goal.overflow_add-result
+overflow_add-result c = let f = c.ranges.a in rw (to_z-of_z w64 _ f, to_z-of_z w64 _ (halves_fit c.args.a f)) (more_fits c.args.a f)
 
-add_result : tie.Need-overflow_add-result
-add_result c = let f = c.ranges.a in rw (to_z-of_z w64 _ f, to_z-of_z w64 _ (halves_fit c.args.a f)) (more_fits c.args.a f)
-
-returns : tie.Need-returns
+pub returns : goal.returns
 returns c =
     let a = c.args.a in
     let f = c.ranges.a in
     let fits = more_fits a f in
-    rw (to_z-of_z w64 _ f, to_z-of_z w64 _ (halves_fit a f), to_z-of_z w64 _ fits, to_z-of_z w64 _ (sfits_le (mag_shr (shr_z a 2048 +ℤ more) 2) fits)) (shifts_are_nearest a)
-
-pub nearest_quotient_4096_spec : {M : Type 1} → statement M
-nearest_quotient_4096_spec = tie.close (tie.spec add_result returns)
+    rw (to_z-of_z w64 _ f, to_z-of_z w64 _ (halves_fit a f), to_z-of_z w64 _ fits, to_z-of_z w64 _ (sfits_le (mag_shr (shr_z a 2048 +ℤ more) 2) fits))
+    (shift_is_floor _ 2 ∙ ap (λ z. floor_quotient (z +ℤ more) (pos 2)) (shift_is_floor a 2048) ∙ nearest_by_halves a 2048 (omega arith))
