@@ -1,7 +1,7 @@
 #!/usr/bin/env bash
 # Speed of one evaluation, of a whole listing and of a formula beside the same written plainly in Rust:
 #     bench/run.sh [BENCH_EVALUATE [RANGES [FORMULA]]]
-# All are in target/bin/, where `rt check bench_evaluate ranges formula` builds them. Needs cargo, valgrind, strace, python3.
+# All are in target/bin/, where `tools/build bench_evaluate ranges formula` builds them. Needs cargo, valgrind, strace, python3.
 set -eu
 cd "$(dirname "${BASH_SOURCE[0]}")/.."
 bench_evaluate=$(realpath "${1:-target/bin/bench_evaluate}")

@@ -1,5 +1,5 @@
 #!/usr/bin/env python3
-"""The program formula, as rt ci or rt check built it, prints what the checker says for its arguments: sheets, refusals, wrong calls.
+"""The program formula, as tools/build built it, prints what the checker says for its arguments: sheets, refusals, wrong calls.
 
 A wrong call prints nothing on standard output and how to call it on standard error; any other prints nothing on standard error. Each
 sheet that is printed is handed to ranges. The last line is `N passed, M failed`.

@@ -9,8 +9,8 @@ Fenced blocks, by the words behind the fence:
 
 A block of another kind fails, as does a command that is neither run nor among NOT_RUN. Also tested: the sums and commands in
 code spans, the paths there, the numbers of the sections and who refers to them, and the tables that TABLES names. What is
-expected is what the documents say; numbers that no command prints come from the checker. The programs are those that `rt ci`
-or `rt check` built. The last line is `N passed, M failed`.
+expected is what the documents say; numbers that no command prints come from the checker. The programs are those that
+`tools/build` built. The last line is `N passed, M failed`.
 """
 
 import ast
@@ -39,11 +39,11 @@ DOCUMENTS = [MANUAL, "README.md", "examples/README.md"]
 SOURCES = ("*.antt", "*.rt", "*.py", "*.sh", "*.md", "*.rs", "*.edit")
 
 # Commands that build, and the gate itself, which runs this test: they are shown without what they print. Another one of the toolchain or the gate fails.
-NOT_RUN = {"rt check ranges", "rt check formula", ".ci/run", "rt dev NAME"}
-LONG = ("rt ", ".ci/", "bench/")
+NOT_RUN = {"tools/build ranges", "tools/build formula", ".ci/run", "rt check"}
+LONG = ("rt ", ".ci/", "bench/", "tools/")
 # How a code span begins that is a command.
-COMMAND = re.compile(r"(rt|python3|bash|target/bin/\S+) |\.ci/|bench/run\.sh")
-TOP_FOLDERS = ("bench/", "checker/", "crates/", "docs/", "examples/", "tests/", ".ci/")
+COMMAND = re.compile(r"(rt|python3|bash|target/bin/\S+) |\.ci/|bench/run\.sh|tools/build")
+TOP_FOLDERS = ("bench/", "checker/", "crates/", "docs/", "examples/", "tests/", "tools/", ".ci/")
 
 SUM = re.compile(r"(?P<work>[-+×/() 0-9]+) = (?P<is>-?[0-9]+)(?:, (?P<rounded>down|up|nearest))?")
 OPERATIONS = {ast.Add: operator.add, ast.Sub: operator.sub, ast.Mult: operator.mul, ast.Div: operator.truediv}
