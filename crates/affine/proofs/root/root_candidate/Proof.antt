@@ -82,14 +82,6 @@ put_root_slopes_requires_2 c κs =
 cast_t7 : tie.Need-overflow_cast-result
 cast_t7 c = record { sfits = omega (arith, (z_size (rooted (slopes c.before.before).before)).1) }
 
-returns : tie.Need-returns
-returns c =
-    let s = slopes c.before.before in
-    let o = rooted s.before in
-    let centre = to_z_pos w64 o.unit_root-z.result (omega (arith, (z_size o).1)) ∙ ap pos (z_is o) in
-    let pair = rw (z_is o, (long o.before).1) at c.before.put_root_slopes-2.ensures in
-    λ i. record { centre = centre i; linear = linear_is s i; pair = pair i }
-
 pub root_candidate_spec : {M : Type 1} → statement M
 root_candidate_spec =
     tie.close
@@ -100,4 +92,9 @@ root_candidate_spec =
     slice_aggregate_put_root_slopes_2
     put_root_slopes_requires_2
     cast_t7
-    returns)
+    (λ c.
+    let s = slopes c.before.before in
+    let o = rooted s.before in
+    let centre = to_z_pos w64 o.unit_root-z.result (omega (arith, (z_size o).1)) ∙ ap pos (z_is o) in
+    let pair = rw (z_is o, (long o.before).1) at c.before.put_root_slopes-2.ensures in
+    λ i. record { centre = centre i; linear = linear_is s i; pair = pair i }))
