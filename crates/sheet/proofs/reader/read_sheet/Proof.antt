@@ -115,35 +115,8 @@ add_refused c =
     let l = limits c.before.before.before.before.before.before.before in
     record { fits = omega arith }
 
-add_refused_2 : tie.Need-overflow_add-inputs-else-q-s
-add_refused_2 c =
-    let l = limits c.before.before.before.before.before.before.before in
-    record { fits = omega arith }
-
 refused_requires : tie.Need-refused-requires
 refused_requires c κs = search rules
-
-returns_4 : tie.Need-returns-then-q-s
-returns_4 c =
-    let k = c.before.before in
-    let q = steps_second k.before in
-    let o = k.before.before.before.before.before.before.before.before.before.before in
-    let s = o.before.before.before.args.s.now in
-    let f = first_zero o in
-    let z = second_zero k in
-    let w = lines_read (lines_left (first_part s).schedule) 3 (first_part s).schedule s (first_part s).next (lines_read 2 1 zero_schedule s 0 (omega arith) f).upto z in
-    q ∙ w.whole ∙ sym (sheet_ends s f z (ap (λ (p : Part). p.next) (sym q) ∙ c.if-q-s.true))
-
-returns_5 : tie.Need-returns-else-q-s
-returns_5 c =
-    let k = c.before.before.before in
-    let q = steps_second k.before in
-    let n = k.before.before.before.before.before in
-    let o = n.before.before.before.before.before in
-    let s = o.before.before.before.args.s.now in
-    let g = sheet_goes_on s (first_zero o) (second_zero k) (λ y. c.before.if-q-s.false (ap (λ (p : Part). p.next) q ∙ y)) in
-    let m : n.before.before.natural-inputs.result + n.natural-steps.result + 5 ≡ lines_left (first_part s).schedule + 3 = rw ((counts n).0, (counts n).1, o.before.read_counts-p.ensures) (omega arith) in
-    c.refused.ensures ∙ rw m (sym g)
 
 pub read_sheet_spec : {M : Type 1} → statement M
 read_sheet_spec =
@@ -158,7 +131,25 @@ read_sheet_spec =
     read_steps_requires
     returns_3
     add_refused
-    add_refused_2
+    (λ c.
+    let l = limits c.before.before.before.before.before.before.before in
+    record { fits = omega arith })
     refused_requires
-    returns_4
-    returns_5)
+    (λ c.
+    let k = c.before.before in
+    let q = steps_second k.before in
+    let o = k.before.before.before.before.before.before.before.before.before.before in
+    let s = o.before.before.before.args.s.now in
+    let f = first_zero o in
+    let z = second_zero k in
+    let w = lines_read (lines_left (first_part s).schedule) 3 (first_part s).schedule s (first_part s).next (lines_read 2 1 zero_schedule s 0 (omega arith) f).upto z in
+    q ∙ w.whole ∙ sym (sheet_ends s f z (ap (λ (p : Part). p.next) (sym q) ∙ c.if-q-s.true)))
+    (λ c.
+    let k = c.before.before.before in
+    let q = steps_second k.before in
+    let n = k.before.before.before.before.before in
+    let o = n.before.before.before.before.before in
+    let s = o.before.before.before.args.s.now in
+    let g = sheet_goes_on s (first_zero o) (second_zero k) (λ y. c.before.if-q-s.false (ap (λ (p : Part). p.next) q ∙ y)) in
+    let m : n.before.before.natural-inputs.result + n.natural-steps.result + 5 ≡ lines_left (first_part s).schedule + 3 = rw ((counts n).0, (counts n).1, o.before.read_counts-p.ensures) (omega arith) in
+    c.refused.ensures ∙ rw m (sym g)))
