@@ -2,8 +2,9 @@
 // prints N and the range of the last row after N evaluations into the same tables, or the refusal. `checker/bench_evaluate.py` makes the same line.
 #![tactic(auto)]
 
-use libc::{STDIN_FILENO, STDOUT_FILENO};
 use sheet::{Refusal, Schedule};
+use std::io;
+use streams::Input;
 
 const MOST_TURNS: usize = 10000000;
 
@@ -21,32 +22,30 @@ struct Digits {
     n: usize,
 }
 
-fn print_number(z: i64) {
+fn print_number(rt: &impl Print, z: i64) -> io::Result<()> {
     if z < 0 {
-        io::write_all(STDOUT_FILENO, b"-");
+        print!(rt; "-")?;
     }
-    io::print_decimal(STDOUT_FILENO, integer::magnitude::absolute(z));
+    print!(rt; "{}", integer::magnitude::absolute(z))
 }
 
-fn print_count(n: usize) {
-    io::print_decimal(STDOUT_FILENO, n as u64);
+fn print_count(rt: &impl Print, n: usize) -> io::Result<()> {
+    print!(rt; "{n}")
 }
 
-fn print_range(turns: usize, range: evaluation::RangeAnswer) {
-    print_count(turns);
-    io::write_all(STDOUT_FILENO, b" ");
-    print_number(range.low);
-    io::write_all(STDOUT_FILENO, b" ");
-    print_number(range.high);
-    io::write_all(STDOUT_FILENO, b"\n");
+fn print_range(rt: &impl Print, turns: usize, range: evaluation::RangeAnswer) -> io::Result<()> {
+    print_count(rt, turns)?;
+    print!(rt; " ")?;
+    print_number(rt, range.low)?;
+    print!(rt; " ")?;
+    print_number(rt, range.high)?;
+    print!(rt; "\n")
 }
 
-fn print_refusal(refusal: Refusal) {
-    io::write_all(STDOUT_FILENO, b"refused ");
-    io::print_decimal(STDOUT_FILENO, refusal.number);
-    io::write_all(STDOUT_FILENO, b" ");
-    print_count(refusal.place);
-    io::write_all(STDOUT_FILENO, b"\n");
+fn print_refusal(rt: &impl Print, refusal: Refusal) -> io::Result<()> {
+    print!(rt; "refused {} ", refusal.number)?;
+    print_count(rt, refusal.place)?;
+    print!(rt; "\n")
 }
 
 // The answer of the last of so many evaluations.
@@ -68,27 +67,25 @@ fn evaluate_again(
     refusal
 }
 
-fn evaluate_and_print(schedule: Schedule, turns: usize) {
+fn evaluate_and_print(rt: &impl Print, schedule: Schedule, turns: usize) -> io::Result<()> {
     let mut table = [0i64; TABLE_NUMBERS];
     let mut ranges = [0i64; RANGES_NUMBERS];
     let refusal = evaluate_again(schedule, &mut table, &mut ranges, turns);
     if refusal.number != 0 {
-        print_refusal(refusal);
-        return;
+        return print_refusal(rt, refusal);
     }
     let last = evaluation::row_count(schedule);
-    print_range(turns, evaluation::range(&table, &ranges, last, last));
+    print_range(rt, turns, evaluation::range(&table, &ranges, last, last))
 }
 
-fn read_and_print(bytes: &[u8], turns: usize) {
+fn read_and_print(rt: &impl Print, bytes: &[u8], turns: usize) -> io::Result<()> {
     let answer = sheet::read(bytes);
     let refusal = answer.refusal;
     if refusal.number != 0 {
-        print_refusal(refusal);
-        return;
+        return print_refusal(rt, refusal);
     }
     let schedule = answer.schedule;
-    evaluate_and_print(schedule, turns);
+    evaluate_and_print(rt, schedule, turns)
 }
 
 // The digit that a byte stands for, or 10.
@@ -122,23 +119,27 @@ fn is_count(digits: Digits) -> bool {
 }
 
 // Whether the first line is a count; behind it stands the sheet.
-fn count_and_sheet(bytes: &[u8]) -> bool {
+fn count_and_sheet(rt: &impl Print, bytes: &[u8]) -> io::Result<bool> {
     let digits = leading_digits(bytes);
     let end = digits.n;
     if bytes.len() <= end {
-        return false;
+        return Ok(false);
     }
     let is_line = is_count(digits) && bytes[end] == b'\n';
     if is_line {
-        read_and_print(&bytes[end + 1..], digits.value);
+        read_and_print(rt, &bytes[end + 1..], digits.value)?;
     }
-    is_line
+    Ok(is_line)
 }
 
-fn main() {
+fn main(rt: HostRuntime) -> io::Result<()> {
     let mut bytes = [0u8; ROOM];
-    let n = io::read_full(STDIN_FILENO, &mut bytes);
-    if !count_and_sheet(&bytes[..n]) {
-        io::write_all(STDOUT_FILENO, b"no count\n");
+    let n = match streams::read_input(&mut rt.stdin(), &mut bytes) {
+        Input::Read(n) => n,
+        Input::Failed(e) => return Err(e),
+    };
+    if !count_and_sheet(&rt, &bytes[..n])? {
+        println!(rt; "no count")?;
     }
+    Ok(())
 }

@@ -6,8 +6,9 @@ ghost use Rattle.std.specs.Prelude.{◌≤◌, length};
 ghost use Rattle.formula.specs.Printed.{Printed};
 
 use formulas::InputBlock;
-use libc::{STDERR_FILENO, STDOUT_FILENO};
 use sheet::{End, Field, MAX_INPUTS};
+use std::env::{Env, FillError};
+use std::io;
 
 // One byte more than a formula may have: that a formula is longer is noticed, and what lies behind is not looked at.
 const FORMULA_ROOM: usize = formulas::MAX_TEXT + 1;
@@ -37,12 +38,11 @@ struct Given {
 }
 
 // The argument at a position, as a number written as on a sheet.
-fn word_at(i: usize) -> Word {
+fn word_at(rt: &impl Env, i: usize) -> Word {
     let mut word = [0u8; WORD_ROOM];
-    let n = os::arg(i, &mut word);
-    if os::errno() != 0 {
+    let Ok(n) = rt.arg(i, &mut word) else {
         return Word::Other;
-    }
+    };
     if n >= WORD_ROOM {
         return Word::Other;
     }
@@ -79,7 +79,7 @@ fn one_more(i: usize) -> usize
 }
 
 // The inputs among so many arguments.
-fn inputs_given(count: usize) -> Given {
+fn inputs_given(rt: &impl Env, count: usize) -> Given {
     let mut ends = [End { low: 0, high: 0 }; MAX_INPUTS];
     let mut i: usize = 0;
     let mut at = ENDS;
@@ -87,10 +87,10 @@ fn inputs_given(count: usize) -> Given {
         if count - at < 2 {
             return not_whole(ends);
         }
-        let Word::Number(low) = word_at(at) else {
+        let Word::Number(low) = word_at(rt, at) else {
             return not_whole(ends);
         };
-        let Word::Number(high) = word_at(at + 1) else {
+        let Word::Number(high) = word_at(rt, at + 1) else {
             return not_whole(ends);
         };
         if i < MAX_INPUTS {
@@ -107,14 +107,13 @@ fn inputs_given(count: usize) -> Given {
 }
 
 // Fills the bytes with the formula, as far as there is room: how many bytes it has there.
-fn formula_given(formula: &mut [u8; FORMULA_ROOM]) -> usize
+fn formula_given(rt: &impl Env, formula: &mut [u8; FORMULA_ROOM]) -> usize
     ensures { result ≤ length formula.new }
 {
-    let n = os::arg(FORMULA, &mut *formula);
-    if os::errno() == libc::ENAMETOOLONG {
-        FORMULA_ROOM
-    } else {
-        n
+    match rt.arg(FORMULA, &mut *formula) {
+        Ok(n) => n,
+        Err(FillError::TooLong) => FORMULA_ROOM,
+        Err(FillError::NotPresent) => 0,
     }
 }
 
@@ -139,47 +138,66 @@ fn put_text(
     written.length
 }
 
-fn print(block: InputBlock, room: &[u8; FORMULA_ROOM], n: usize)
+fn print(rt: &(impl Print + Eprint), block: InputBlock, room: &[u8; FORMULA_ROOM], n: usize)
     requires { n ≤ length room.now }
 {
     let mut text = [0u8; listing::TEXT_ROOM];
     let length = put_text(block, room, n, &mut text);
-    if !streams::write_all(STDOUT_FILENO, &text[..length]) {
-        os::fail(b"formula: cannot write the sheet");
+    if let Err(e) = streams::write_all(&mut io::writer(rt), &text[..length]) {
+        streams::fail(rt, "formula: cannot write the sheet", e);
     }
 }
 
-fn print_call() {
-    streams::write_all(
-        STDERR_FILENO,
-        b"call: formula FORMULA SQUARES LOW HIGH LOW HIGH ..., as formula '(a+8192)*b' 2 -512 512 4096 8192\n",
+// Where that cannot be written nothing can be told.
+fn print_call(rt: &impl Eprint) {
+    let _ = eprintln!(rt;
+        "call: formula FORMULA SQUARES LOW HIGH LOW HIGH ..., as formula '(a+8192)*b' 2 -512 512 4096 8192"
     );
 }
 
 // Prints what so many arguments ask for, and answers true, or answers false for a wrong call.
-fn answer(count: usize) -> bool {
-    let Word::Number(squares) = word_at(SQUARES) else {
+fn answer(rt: &(impl Env + Print + Eprint), count: usize) -> bool {
+    let Word::Number(squares) = word_at(rt, SQUARES) else {
         return false;
     };
-    let given = inputs_given(count);
+    let given = inputs_given(rt, count);
     if !given.whole {
         return false;
     }
     let inputs = given.inputs;
     let ends = given.ends;
     let mut room = [0u8; FORMULA_ROOM];
-    let n = formula_given(&mut room);
+    let n = formula_given(rt, &mut room);
     let block = InputBlock {
         inputs,
         squares,
         ends,
     };
-    print(block, &room, n);
+    print(rt, block, &room, n);
     true
 }
 
-fn main() {
-    if !answer(os::arg_count()) {
-        print_call();
+// Whether there is an argument at a position.
+fn has_argument(rt: &impl Env, i: usize) -> bool {
+    let mut none = [0u8; 0];
+    match rt.arg(i, &mut none) {
+        Ok(_) => true,
+        Err(FillError::TooLong) => true,
+        Err(FillError::NotPresent) => false,
+    }
+}
+
+// How many arguments there are, the program's own name among them. A proved loop ends, and nothing says that they do: no run gets to the last count.
+fn argument_count(rt: &impl Env) -> usize {
+    let mut count: usize = 0;
+    while count < usize::MAX && has_argument(rt, count) {
+        count += 1;
+    }
+    count
+}
+
+fn main(rt: HostRuntime) {
+    if !answer(&rt, argument_count(&rt)) {
+        print_call(&rt);
     }
 }

@@ -9,6 +9,7 @@ use integer::division::{
 };
 use integer::magnitude::absolute;
 use integer::root::root;
+use std::io;
 
 const LEAST: i64 = -9223372036854775808;
 
@@ -101,118 +102,123 @@ fn radicand(i: u64) -> u64 {
     }
 }
 
-fn print_unsigned(n: u64) {
-    io::write_all(1, b" ");
-    io::print_decimal(1, n);
+fn print_unsigned(rt: &impl Print, n: u64) -> io::Result<()> {
+    print!(rt; " {n}")
 }
 
-fn print_signed(z: i64) {
-    io::write_all(1, b" ");
+fn print_signed(rt: &impl Print, z: i64) -> io::Result<()> {
+    print!(rt; " ")?;
     if z < 0 {
-        io::write_all(1, b"-");
+        print!(rt; "-")?;
     }
-    io::print_decimal(1, absolute(z));
+    print!(rt; "{}", absolute(z))
 }
 
 // The least number over -1 has no quotient in range, and its line says so.
-fn print_floor(a: i64, d: i64) {
+fn print_floor(rt: &impl Print, a: i64, d: i64) -> io::Result<()> {
     if d == 0 {
-        return;
+        return Ok(());
     }
-    io::write_all(1, b"floor");
-    print_signed(a);
-    print_signed(d);
+    print!(rt; "floor")?;
+    print_signed(rt, a)?;
+    print_signed(rt, d)?;
     if a == LEAST {
         if d == -1 {
-            io::write_all(1, b" none");
+            print!(rt; " none")?;
         } else {
-            print_signed(floor_quotient(a, d));
+            print_signed(rt, floor_quotient(a, d))?;
         }
     } else {
-        print_signed(floor_quotient(a, d));
+        print_signed(rt, floor_quotient(a, d))?;
     }
-    print_signed(floor_remainder(a, d));
-    io::write_all(1, b"\n");
+    print_signed(rt, floor_remainder(a, d))?;
+    print!(rt; "\n")
 }
 
-fn print_by_4096(a: i64) {
-    io::write_all(1, b"4096");
-    print_signed(a);
-    print_signed(floor_quotient_4096(a));
-    print_signed(nearest_quotient_4096(a));
-    print_unsigned(nearest_remainder_4096(a));
-    print_unsigned(absolute(a));
-    io::write_all(1, b"\n");
+fn print_by_4096(rt: &impl Print, a: i64) -> io::Result<()> {
+    print!(rt; "4096")?;
+    print_signed(rt, a)?;
+    print_signed(rt, floor_quotient_4096(a))?;
+    print_signed(rt, nearest_quotient_4096(a))?;
+    print_unsigned(rt, nearest_remainder_4096(a))?;
+    print_unsigned(rt, absolute(a))?;
+    print!(rt; "\n")
 }
 
-fn print_ceiling(n: u64, d: u64) {
+fn print_ceiling(rt: &impl Print, n: u64, d: u64) -> io::Result<()> {
     if d == 0 {
-        return;
+        return Ok(());
     }
-    io::write_all(1, b"ceiling");
-    print_unsigned(n);
-    print_unsigned(d);
-    print_unsigned(ceiling_quotient(n, d));
-    io::write_all(1, b"\n");
+    print!(rt; "ceiling")?;
+    print_unsigned(rt, n)?;
+    print_unsigned(rt, d)?;
+    print_unsigned(rt, ceiling_quotient(n, d))?;
+    print!(rt; "\n")
 }
 
-fn print_by_divisors(a: i64) {
+fn print_by_divisors(rt: &impl Print, a: i64) -> io::Result<()> {
     for i in 0..10 {
-        print_floor(a, divisor(i));
+        print_floor(rt, a, divisor(i))?;
     }
+    Ok(())
 }
 
-fn print_floors() {
+fn print_floors(rt: &impl Print) -> io::Result<()> {
     for i in 0..13 {
-        print_by_divisors(dividend(i));
-        print_by_4096(dividend(i));
+        print_by_divisors(rt, dividend(i))?;
+        print_by_4096(rt, dividend(i))?;
     }
+    Ok(())
 }
 
 // An exact half, and its neighbours.
-fn print_around_half(h: i64)
+fn print_around_half(rt: &impl Print, h: i64) -> io::Result<()>
     requires { nat_abs h ≤ 9223372036854773760 }
 {
-    print_by_4096(h - 1);
-    print_by_4096(h);
-    print_by_4096(h + 1);
+    print_by_4096(rt, h - 1)?;
+    print_by_4096(rt, h)?;
+    print_by_4096(rt, h + 1)
 }
 
-fn print_halves() {
+fn print_halves(rt: &impl Print) -> io::Result<()> {
     for i in 0..8 {
-        print_around_half(half(i));
+        print_around_half(rt, half(i))?;
     }
+    Ok(())
 }
 
-fn print_of_naturals(d: u64) {
-    print_ceiling(0, d);
+fn print_of_naturals(rt: &impl Print, d: u64) -> io::Result<()> {
+    print_ceiling(rt, 0, d)?;
     for i in 0..8 {
-        print_ceiling(natural(i), d);
+        print_ceiling(rt, natural(i), d)?;
     }
+    Ok(())
 }
 
-fn print_ceilings() {
+fn print_ceilings(rt: &impl Print) -> io::Result<()> {
     for i in 0..8 {
-        print_of_naturals(natural(i));
+        print_of_naturals(rt, natural(i))?;
     }
+    Ok(())
 }
 
-fn print_root(n: u64) {
-    io::write_all(1, b"root");
-    print_unsigned(n);
-    print_unsigned(root(n));
-    io::write_all(1, b"\n");
+fn print_root(rt: &impl Print, n: u64) -> io::Result<()> {
+    print!(rt; "root")?;
+    print_unsigned(rt, n)?;
+    print_unsigned(rt, root(n))?;
+    print!(rt; "\n")
 }
 
-fn print_roots() {
+fn print_roots(rt: &impl Print) -> io::Result<()> {
     for i in 0..21 {
-        print_root(radicand(i));
+        print_root(rt, radicand(i))?;
     }
+    Ok(())
 }
 
-fn main() {
-    print_floors();
-    print_halves();
-    print_ceilings();
-    print_roots();
+fn main(rt: HostRuntime) -> io::Result<()> {
+    print_floors(&rt)?;
+    print_halves(&rt)?;
+    print_ceilings(&rt)?;
+    print_roots(&rt)
 }

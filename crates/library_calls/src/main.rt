@@ -8,8 +8,10 @@
 ghost use Rattle.std.specs.Prelude.{◌≡◌, ◌≤◌, ◌<◌, length};
 
 use formulas::InputBlock;
-use libc::STDOUT_FILENO;
 use sheet::{End, MAX_INPUTS, MAX_STEPS, ReadAnswer, Refusal, Schedule, Step, WriteAnswer};
+use std::fs::File;
+use std::io;
+use std::io::Read;
 
 // The most numbers and bytes that are lent.
 const TABLE_ROOM: usize = 1612;
@@ -33,13 +35,15 @@ const DIGITS: usize = 16;
 // 2 to the 63rd: an unsigned number from it on stands for a negative one.
 const FIRST_NEGATIVE: u64 = 9223372036854775808;
 
-// What is kept between calls, beside the tables: how many numbers of each are lent, and the schedule.
+// What is kept between calls, beside the tables: how many numbers of each are lent, the schedule, and what printing came to; a failure of it ends
+// the run.
 #[derive(Clone, Copy)]
 struct State {
     numbers: usize,
     ends: usize,
     schedule: Schedule,
     done: bool,
+    printed: io::Result<()>,
 }
 
 // ---- the data file
@@ -60,16 +64,21 @@ fn bits(field: [u8; FIELD]) -> u64 {
     value
 }
 
+// Fills the bytes from the file, as far as it goes: a read that fails ends it.
+fn read_full(file: &mut impl Read, bytes: &mut [u8]) {
+    streams::read_input(file, bytes);
+}
+
 // The next field, as an unsigned number; 0 where the file has ended.
-fn next(fd: i32) -> u64 {
+fn next(file: &mut impl Read) -> u64 {
     let mut field = [0u8; FIELD];
-    io::read_full(fd, &mut field);
+    read_full(file, &mut field);
     bits(field)
 }
 
 // The next field, as a signed number.
-fn next_signed(fd: i32) -> i64 {
-    let n = next(fd);
+fn next_signed(file: &mut impl Read) -> i64 {
+    let n = next(file);
     if n < FIRST_NEGATIVE {
         n as i64
     } else {
@@ -77,39 +86,39 @@ fn next_signed(fd: i32) -> i64 {
     }
 }
 
-fn next_size(fd: i32) -> usize {
-    next(fd) as usize
+fn next_size(file: &mut impl Read) -> usize {
+    next(file) as usize
 }
 
-fn next_at_most(fd: i32, most: usize) -> usize
+fn next_at_most(file: &mut impl Read, most: usize) -> usize
     ensures { result ≤ most }
 {
-    let n = next_size(fd);
+    let n = next_size(file);
     if n <= most { n } else { most }
 }
 
 // Fills the lent bytes with the next ones, and passes over the byte behind them.
-fn next_bytes(fd: i32, bytes: &mut [u8]) {
-    io::read_full(fd, bytes);
+fn next_bytes(file: &mut impl Read, bytes: &mut [u8]) {
+    read_full(file, bytes);
     let mut behind = [0u8; 1];
-    io::read_full(fd, &mut behind);
+    read_full(file, &mut behind);
 }
 
-fn next_ends(fd: i32) -> [End; MAX_INPUTS] {
+fn next_ends(file: &mut impl Read) -> [End; MAX_INPUTS] {
     let mut ends = [End { low: 0, high: 0 }; MAX_INPUTS];
     for i in 0..MAX_INPUTS {
-        let low = next_signed(fd);
-        let high = next_signed(fd);
+        let low = next_signed(file);
+        let high = next_signed(file);
         ends[i] = End { low, high };
     }
     ends
 }
 
-fn next_step(fd: i32) -> Step {
-    let code = next_signed(fd);
-    let first = next_signed(fd);
-    let second = next_signed(fd);
-    let value = next_signed(fd);
+fn next_step(file: &mut impl Read) -> Step {
+    let code = next_signed(file);
+    let first = next_signed(file);
+    let second = next_signed(file);
+    let value = next_signed(file);
     Step {
         code,
         first,
@@ -118,7 +127,7 @@ fn next_step(fd: i32) -> Step {
     }
 }
 
-fn next_steps(fd: i32) -> [Step; MAX_STEPS] {
+fn next_steps(file: &mut impl Read) -> [Step; MAX_STEPS] {
     let mut steps = [Step {
         code: 0,
         first: 0,
@@ -126,17 +135,17 @@ fn next_steps(fd: i32) -> [Step; MAX_STEPS] {
         value: 0,
     }; MAX_STEPS];
     for j in 0..MAX_STEPS {
-        steps[j] = next_step(fd);
+        steps[j] = next_step(file);
     }
     steps
 }
 
-fn next_schedule(fd: i32) -> Schedule {
-    let inputs = next_signed(fd);
-    let squares = next_signed(fd);
-    let steps = next_signed(fd);
-    let ends = next_ends(fd);
-    let step = next_steps(fd);
+fn next_schedule(file: &mut impl Read) -> Schedule {
+    let inputs = next_signed(file);
+    let squares = next_signed(file);
+    let steps = next_signed(file);
+    let ends = next_ends(file);
+    let step = next_steps(file);
     Schedule {
         inputs,
         squares,
@@ -147,10 +156,10 @@ fn next_schedule(fd: i32) -> Schedule {
 }
 
 // The schedule with other inputs, squares and ends.
-fn next_inputs(fd: i32, schedule: Schedule) -> Schedule {
-    let inputs = next_signed(fd);
-    let squares = next_signed(fd);
-    let ends = next_ends(fd);
+fn next_inputs(file: &mut impl Read, schedule: Schedule) -> Schedule {
+    let inputs = next_signed(file);
+    let squares = next_signed(file);
+    let ends = next_ends(file);
     let step = schedule.step;
     Schedule {
         inputs,
@@ -163,26 +172,26 @@ fn next_inputs(fd: i32, schedule: Schedule) -> Schedule {
 
 // ---- printing
 
-fn print_unsigned(n: u64) {
-    io::write_all(STDOUT_FILENO, b" ");
-    io::print_decimal(STDOUT_FILENO, n);
+fn print_unsigned(rt: &impl Print, n: u64) -> io::Result<()> {
+    print!(rt; " ")?;
+    print!(rt; "{n}")
 }
 
-fn print_signed(z: i64) {
-    io::write_all(STDOUT_FILENO, b" ");
+fn print_signed(rt: &impl Print, z: i64) -> io::Result<()> {
+    print!(rt; " ")?;
     if z < 0 {
-        io::write_all(STDOUT_FILENO, b"-");
+        print!(rt; "-")?;
     }
-    io::print_decimal(STDOUT_FILENO, integer::magnitude::absolute(z));
+    print!(rt; "{}", integer::magnitude::absolute(z))
 }
 
-fn print_line_end() {
-    io::write_all(STDOUT_FILENO, b"\n");
+fn print_line_end(rt: &impl Print) -> io::Result<()> {
+    print!(rt; "\n")
 }
 
-fn print_refusal(refusal: Refusal) {
-    print_unsigned(refusal.number);
-    print_unsigned(refusal.place as u64);
+fn print_refusal(rt: &impl Print, refusal: Refusal) -> io::Result<()> {
+    print_unsigned(rt, refusal.number)?;
+    print_unsigned(rt, refusal.place as u64)
 }
 
 // The place behind the numbers that are equal to the one at a start and follow it.
@@ -202,30 +211,31 @@ fn run_end(numbers: &[i64], start: usize) -> usize
 }
 
 // So many equal numbers as one.
-fn print_run(z: i64, count: usize) {
-    print_signed(z);
+fn print_run(rt: &impl Print, z: i64, count: usize) -> io::Result<()> {
+    print_signed(rt, z)?;
     if count > 1 {
-        io::write_all(STDOUT_FILENO, b"x");
-        io::print_decimal(STDOUT_FILENO, count as u64);
+        print!(rt; "x")?;
+        print!(rt; "{count}")?;
     }
+    Ok(())
 }
 
-fn print_numbers(numbers: &[i64]) {
+fn print_numbers(rt: &impl Print, numbers: &[i64]) -> io::Result<()> {
     let mut i: usize = 0;
     while i < numbers.len() {
         let z = numbers[i];
         let end = run_end(numbers, i);
-        print_run(z, end - i);
+        print_run(rt, z, end - i)?;
         i = end;
     }
-    print_line_end();
+    print_line_end(rt)
 }
 
-fn print_tables(table: &[i64], ranges: &[i64]) {
-    io::write_all(STDOUT_FILENO, b"table");
-    print_numbers(table);
-    io::write_all(STDOUT_FILENO, b"ranges");
-    print_numbers(ranges);
+fn print_tables(rt: &impl Print, table: &[i64], ranges: &[i64]) -> io::Result<()> {
+    print!(rt; "table")?;
+    print_numbers(rt, table)?;
+    print!(rt; "ranges")?;
+    print_numbers(rt, ranges)
 }
 
 // How many of the bytes stand before the untouched ones that end them.
@@ -242,75 +252,77 @@ fn front_length(bytes: &[u8]) -> usize
     0
 }
 
-fn print_bytes(bytes: &[u8]) {
+fn print_bytes(rt: &impl Print, bytes: &[u8]) -> io::Result<()> {
     let length = front_length(bytes);
-    io::write_all(STDOUT_FILENO, &bytes[0..length]);
-    print_line_end();
-    io::write_all(STDOUT_FILENO, b"left");
-    print_unsigned((bytes.len() - length) as u64);
-    print_line_end();
+    rt.write_all(&bytes[0..length])?;
+    print_line_end(rt)?;
+    print!(rt; "left")?;
+    print_unsigned(rt, (bytes.len() - length) as u64)?;
+    print_line_end(rt)
 }
 
 // The answer of a call that writes, and the bytes lent to it.
-fn print_written(answer: WriteAnswer, bytes: &[u8]) {
+fn print_written(rt: &impl Print, answer: WriteAnswer, bytes: &[u8]) -> io::Result<()> {
     let refusal = answer.refusal;
-    print_refusal(refusal);
-    print_unsigned(answer.length as u64);
-    print_line_end();
-    print_bytes(bytes);
+    print_refusal(rt, refusal)?;
+    print_unsigned(rt, answer.length as u64)?;
+    print_line_end(rt)?;
+    print_bytes(rt, bytes)
 }
 
-fn print_end(number: usize, end: End) {
-    io::write_all(STDOUT_FILENO, b" end");
-    print_unsigned(number as u64);
-    print_signed(end.low);
-    print_signed(end.high);
+fn print_end(rt: &impl Print, number: usize, end: End) -> io::Result<()> {
+    print!(rt; " end")?;
+    print_unsigned(rt, number as u64)?;
+    print_signed(rt, end.low)?;
+    print_signed(rt, end.high)
 }
 
-fn print_ends(ends: [End; MAX_INPUTS]) {
+fn print_ends(rt: &impl Print, ends: [End; MAX_INPUTS]) -> io::Result<()> {
     for i in 0..MAX_INPUTS {
         let end = ends[i];
         if end.low != 0 || end.high != 0 {
-            print_end(i + 1, end);
+            print_end(rt, i + 1, end)?;
         }
     }
+    Ok(())
 }
 
-fn print_step(number: usize, step: Step) {
-    io::write_all(STDOUT_FILENO, b" step");
-    print_unsigned(number as u64);
-    print_signed(step.code);
-    print_signed(step.first);
-    print_signed(step.second);
-    print_signed(step.value);
+fn print_step(rt: &impl Print, number: usize, step: Step) -> io::Result<()> {
+    print!(rt; " step")?;
+    print_unsigned(rt, number as u64)?;
+    print_signed(rt, step.code)?;
+    print_signed(rt, step.first)?;
+    print_signed(rt, step.second)?;
+    print_signed(rt, step.value)
 }
 
-fn print_steps(steps: [Step; MAX_STEPS]) {
+fn print_steps(rt: &impl Print, steps: [Step; MAX_STEPS]) -> io::Result<()> {
     for j in 0..MAX_STEPS {
         let step = steps[j];
         if step.code != 0 || step.first != 0 || step.second != 0 || step.value != 0 {
-            print_step(j + 1, step);
+            print_step(rt, j + 1, step)?;
         }
     }
+    Ok(())
 }
 
 // A schedule: its counts, and every end and step that is not all zeros, beyond the counts too.
-fn print_schedule(schedule: Schedule) {
-    print_signed(schedule.inputs);
-    print_signed(schedule.squares);
-    print_signed(schedule.steps);
+fn print_schedule(rt: &impl Print, schedule: Schedule) -> io::Result<()> {
+    print_signed(rt, schedule.inputs)?;
+    print_signed(rt, schedule.squares)?;
+    print_signed(rt, schedule.steps)?;
     let ends = schedule.ends;
-    print_ends(ends);
+    print_ends(rt, ends)?;
     let step = schedule.step;
-    print_steps(step);
-    print_line_end();
+    print_steps(rt, step)?;
+    print_line_end(rt)
 }
 
-fn print_read(answer: ReadAnswer) {
+fn print_read(rt: &impl Print, answer: ReadAnswer) -> io::Result<()> {
     let refusal = answer.refusal;
-    print_refusal(refusal);
+    print_refusal(rt, refusal)?;
     let schedule = answer.schedule;
-    print_schedule(schedule);
+    print_schedule(rt, schedule)
 }
 
 // ---- the calls, on the parts of the tables that are lent
@@ -322,99 +334,127 @@ fn fill(table: &mut [i64], value: i64) {
 }
 
 // Fills the front of a table that is lent from now on: its length.
-fn lend(fd: i32, table: &mut [i64]) -> usize
+fn lend(file: &mut impl Read, table: &mut [i64]) -> usize
     ensures { result ≤ length table.old }
 {
-    let length = next_at_most(fd, table.len());
-    let value = next_signed(fd);
+    let length = next_at_most(file, table.len());
+    let value = next_signed(file);
     fill(&mut table[0..length], value);
     length
 }
 
-fn put(fd: i32, table: &mut [i64]) {
-    let place = next_size(fd);
-    let value = next_signed(fd);
+fn put(file: &mut impl Read, table: &mut [i64]) {
+    let place = next_size(file);
+    let value = next_signed(file);
     if place < table.len() {
         table[place] = value;
     }
 }
 
-fn evaluate(schedule: Schedule, table: &mut [i64], ranges: &mut [i64]) {
+fn evaluate(
+    rt: &impl Print,
+    schedule: Schedule,
+    table: &mut [i64],
+    ranges: &mut [i64],
+) -> io::Result<()> {
     let refusal = evaluation::evaluate(schedule, &mut *table, &mut *ranges);
-    io::write_all(STDOUT_FILENO, b"evaluate");
-    print_refusal(refusal);
-    print_line_end();
-    print_tables(&*table, &*ranges);
+    print!(rt; "evaluate")?;
+    print_refusal(rt, refusal)?;
+    print_line_end(rt)?;
+    print_tables(rt, &*table, &*ranges)
 }
 
-fn range(fd: i32, table: &[i64], ranges: &[i64]) {
-    let count = next_size(fd);
-    let row = next_size(fd);
+fn range(rt: &impl Print, file: &mut impl Read, table: &[i64], ranges: &[i64]) -> io::Result<()> {
+    let count = next_size(file);
+    let row = next_size(file);
     let answer = evaluation::range(table, ranges, count, row);
     let refusal = answer.refusal;
-    io::write_all(STDOUT_FILENO, b"range");
-    print_refusal(refusal);
-    print_signed(answer.low);
-    print_signed(answer.high);
-    print_line_end();
+    print!(rt; "range")?;
+    print_refusal(rt, refusal)?;
+    print_signed(rt, answer.low)?;
+    print_signed(rt, answer.high)?;
+    print_line_end(rt)
 }
 
-fn row(fd: i32, table: &[i64]) {
-    let count = next_size(fd);
-    let row = next_size(fd);
-    io::write_all(STDOUT_FILENO, b"row");
-    print_numbers(evaluation::row(table, count, row));
+fn row(rt: &impl Print, file: &mut impl Read, table: &[i64]) -> io::Result<()> {
+    let count = next_size(file);
+    let row = next_size(file);
+    print!(rt; "row")?;
+    print_numbers(rt, evaluation::row(table, count, row))
 }
 
-fn same(fd: i32, table: &[i64]) {
-    let count = next_size(fd);
-    let first = next_size(fd);
-    let second = next_size(fd);
+fn same(rt: &impl Print, file: &mut impl Read, table: &[i64]) -> io::Result<()> {
+    let count = next_size(file);
+    let first = next_size(file);
+    let second = next_size(file);
     let answer = evaluation::same(table, count, first, second);
     let refusal = answer.refusal;
-    io::write_all(STDOUT_FILENO, b"same");
-    print_refusal(refusal);
-    print_unsigned(if answer.same { 1 } else { 0 });
-    print_line_end();
+    print!(rt; "same")?;
+    print_refusal(rt, refusal)?;
+    print_unsigned(rt, if answer.same { 1 } else { 0 })?;
+    print_line_end(rt)
 }
 
-fn write(schedule: Schedule, out: &mut [u8]) {
+fn write(rt: &impl Print, schedule: Schedule, out: &mut [u8]) -> io::Result<()> {
     let answer = sheet::write(schedule, &mut *out);
-    io::write_all(STDOUT_FILENO, b"write");
-    print_written(answer, &*out);
+    print!(rt; "write")?;
+    print_written(rt, answer, &*out)
 }
 
-fn write_front(fd: i32, schedule: Schedule, out: &mut [u8]) {
-    let length = next_at_most(fd, out.len());
-    write(schedule, &mut out[0..length]);
+fn write_front(
+    rt: &impl Print,
+    file: &mut impl Read,
+    schedule: Schedule,
+    out: &mut [u8],
+) -> io::Result<()> {
+    let length = next_at_most(file, out.len());
+    write(rt, schedule, &mut out[0..length])
 }
 
-fn write_fresh(fd: i32, schedule: Schedule) {
+fn write_fresh(rt: &impl Print, file: &mut impl Read, schedule: Schedule) -> io::Result<()> {
     let mut out = [UNTOUCHED; WRITE_ROOM];
-    write_front(fd, schedule, &mut out);
+    write_front(rt, file, schedule, &mut out)
 }
 
-fn list(sheet: &[u8], table: &mut [i64], ranges: &mut [i64], text: &mut [u8]) {
+fn list(
+    rt: &impl Print,
+    sheet: &[u8],
+    table: &mut [i64],
+    ranges: &mut [i64],
+    text: &mut [u8],
+) -> io::Result<()> {
     let answer = listing::list(sheet, &mut *table, &mut *ranges, &mut *text);
-    io::write_all(STDOUT_FILENO, b"list");
-    print_written(answer, &*text);
-    print_tables(&*table, &*ranges);
+    print!(rt; "list")?;
+    print_written(rt, answer, &*text)?;
+    print_tables(rt, &*table, &*ranges)
 }
 
-fn list_front(fd: i32, sheet: &mut [u8], table: &mut [i64], ranges: &mut [i64], text: &mut [u8]) {
-    let length = next_at_most(fd, sheet.len());
-    let room = next_at_most(fd, text.len());
-    next_bytes(fd, &mut sheet[0..length]);
-    list(&sheet[0..length], table, ranges, &mut text[0..room]);
+fn list_front(
+    rt: &impl Print,
+    file: &mut impl Read,
+    sheet: &mut [u8],
+    table: &mut [i64],
+    ranges: &mut [i64],
+    text: &mut [u8],
+) -> io::Result<()> {
+    let length = next_at_most(file, sheet.len());
+    let room = next_at_most(file, text.len());
+    next_bytes(file, &mut sheet[0..length]);
+    list(rt, &sheet[0..length], table, ranges, &mut text[0..room])
 }
 
-fn list_fresh(fd: i32, table: &mut [i64], ranges: &mut [i64]) {
+fn list_fresh(
+    rt: &impl Print,
+    file: &mut impl Read,
+    table: &mut [i64],
+    ranges: &mut [i64],
+) -> io::Result<()> {
     let mut sheet = [0u8; SHEET_ROOM];
     let mut text = [UNTOUCHED; LIST_ROOM];
-    list_front(fd, &mut sheet, table, ranges, &mut text);
+    list_front(rt, file, &mut sheet, table, ranges, &mut text)
 }
 
-fn formula(schedule: Schedule, text: &[u8]) {
+fn formula(rt: &impl Print, schedule: Schedule, text: &[u8]) -> io::Result<()> {
     let ends = schedule.ends;
     let block = InputBlock {
         inputs: schedule.inputs,
@@ -422,34 +462,52 @@ fn formula(schedule: Schedule, text: &[u8]) {
         ends,
     };
     let answer = formulas::read(block, text);
-    io::write_all(STDOUT_FILENO, b"formula");
-    print_read(answer);
+    print!(rt; "formula")?;
+    print_read(rt, answer)
 }
 
-fn formula_front(fd: i32, schedule: Schedule, text: &mut [u8]) {
-    let length = next_at_most(fd, text.len());
-    next_bytes(fd, &mut text[0..length]);
-    formula(schedule, &text[0..length]);
+fn formula_front(
+    rt: &impl Print,
+    file: &mut impl Read,
+    schedule: Schedule,
+    text: &mut [u8],
+) -> io::Result<()> {
+    let length = next_at_most(file, text.len());
+    next_bytes(file, &mut text[0..length]);
+    formula(rt, schedule, &text[0..length])
 }
 
-fn formula_fresh(fd: i32, schedule: Schedule) {
+fn formula_fresh(rt: &impl Print, file: &mut impl Read, schedule: Schedule) -> io::Result<()> {
     let mut text = [0u8; FORMULA_ROOM];
-    formula_front(fd, schedule, &mut text);
+    formula_front(rt, file, schedule, &mut text)
 }
 
 // Makes the call of a code on the parts of the tables that are lent.
-fn call(fd: i32, code: u64, schedule: Schedule, table: &mut [i64], ranges: &mut [i64]) {
+fn call(
+    rt: &impl Print,
+    file: &mut impl Read,
+    code: u64,
+    schedule: Schedule,
+    table: &mut [i64],
+    ranges: &mut [i64],
+) -> io::Result<()> {
     match code {
-        2 => put(fd, table),
-        4 => evaluate(schedule, table, ranges),
-        5 => range(fd, &*table, &*ranges),
-        6 => row(fd, &*table),
-        7 => same(fd, &*table),
-        8 => write_fresh(fd, schedule),
-        9 => list_fresh(fd, table, ranges),
-        11 => formula_fresh(fd, schedule),
-        13 => put(fd, ranges),
-        _ => {}
+        2 => {
+            put(file, table);
+            Ok(())
+        }
+        4 => evaluate(rt, schedule, table, ranges),
+        5 => range(rt, file, &*table, &*ranges),
+        6 => row(rt, file, &*table),
+        7 => same(rt, file, &*table),
+        8 => write_fresh(rt, file, schedule),
+        9 => list_fresh(rt, file, table, ranges),
+        11 => formula_fresh(rt, file, schedule),
+        13 => {
+            put(file, ranges);
+            Ok(())
+        }
+        _ => Ok(()),
     }
 }
 
@@ -462,15 +520,22 @@ fn going_on(numbers: usize, ends: usize, schedule: Schedule) -> State
         ends,
         schedule,
         done: false,
+        printed: Ok(()),
     }
 }
 
 // Makes the next call: the state after it.
-fn step(fd: i32, table: &mut [i64], ranges: &mut [i64], state: State) -> State
+fn step(
+    rt: &impl Print,
+    file: &mut impl Read,
+    table: &mut [i64],
+    ranges: &mut [i64],
+    state: State,
+) -> State
     requires { (state.numbers ≤ length table.old) × (state.ends ≤ length ranges.old) }
     ensures { (result.numbers ≤ length table.old) × (result.ends ≤ length ranges.old) }
 {
-    let code = next(fd);
+    let code = next(file);
     let numbers = state.numbers;
     let ends = state.ends;
     let schedule = state.schedule;
@@ -480,25 +545,33 @@ fn step(fd: i32, table: &mut [i64], ranges: &mut [i64], state: State) -> State
             ends,
             schedule,
             done: true,
+            printed: Ok(()),
         },
-        1 => going_on(lend(fd, table), ends, schedule),
-        3 => going_on(numbers, ends, next_schedule(fd)),
-        10 => going_on(numbers, ends, next_inputs(fd, schedule)),
-        12 => going_on(numbers, lend(fd, ranges), schedule),
+        1 => going_on(lend(file, table), ends, schedule),
+        3 => going_on(numbers, ends, next_schedule(file)),
+        10 => going_on(numbers, ends, next_inputs(file, schedule)),
+        12 => going_on(numbers, lend(file, ranges), schedule),
         _ => {
-            call(
-                fd,
+            let printed = call(
+                rt,
+                file,
                 code,
                 schedule,
                 &mut table[0..numbers],
                 &mut ranges[0..ends],
             );
-            going_on(numbers, ends, schedule)
+            State {
+                numbers,
+                ends,
+                schedule,
+                done: printed.is_err(),
+                printed,
+            }
         }
     }
 }
 
-fn make_calls(fd: i32) {
+fn make_calls(rt: &impl Print, file: &mut impl Read) -> io::Result<()> {
     let mut table = [0i64; TABLE_ROOM];
     let mut ranges = [0i64; RANGES_ROOM];
     let mut state = State {
@@ -506,21 +579,24 @@ fn make_calls(fd: i32) {
         ends: 0,
         schedule: sheet::zero_schedule(),
         done: false,
+        printed: Ok(()),
     };
     // A proved loop ends, and nothing says that a file does: no run uses these turns up.
     let mut turns = u64::MAX;
     while turns > 0 && !state.done {
-        state = step(fd, &mut table, &mut ranges, state);
+        state = step(rt, file, &mut table, &mut ranges, state);
         turns -= 1;
     }
+    state.printed
 }
 
-fn main() {
-    let fd = os::open_read(b"calls");
-    if fd < 0 {
-        os::fail(b"calls");
-        return;
-    }
-    make_calls(fd);
-    libc::close(fd);
+fn main(rt: HostRuntime) -> io::Result<()> {
+    let mut file = match File::open(&rt, "calls") {
+        Ok(file) => file,
+        Err(e) => {
+            streams::fail(&rt, "calls", e);
+            return Ok(());
+        }
+    };
+    make_calls(&rt, &mut file)
 }

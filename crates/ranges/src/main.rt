@@ -5,7 +5,6 @@
 ghost use Rattle.std.specs.Prelude.{◌≤◌, length};
 ghost use Rattle.ranges.specs.Printed.{Printed};
 
-use libc::{STDIN_FILENO, STDOUT_FILENO};
 use streams::Input;
 
 // One byte more than a sheet may have: that a sheet is longer is noticed, and what lies behind is not read.
@@ -27,16 +26,16 @@ fn list(sheet: &[u8; SHEET_ROOM], n: usize, text: &mut [u8; listing::TEXT_ROOM])
     answer.length
 }
 
-fn main() {
+fn main(rt: HostRuntime) {
     let mut sheet = [0u8; SHEET_ROOM];
-    match streams::read_input(STDIN_FILENO, &mut sheet) {
+    match streams::read_input(&mut rt.stdin(), &mut sheet) {
         Input::Read(n) => {
             let mut text = [0u8; listing::TEXT_ROOM];
             let length = list(&sheet, n, &mut text);
-            if !streams::write_all(STDOUT_FILENO, &text[..length]) {
-                os::fail(b"ranges: cannot write the listing");
+            if let Err(e) = streams::write_all(&mut rt.stdout(), &text[..length]) {
+                streams::fail(&rt, "ranges: cannot write the listing", e);
             }
         }
-        Input::Failed => os::fail(b"ranges: cannot read the sheet"),
+        Input::Failed(e) => streams::fail(&rt, "ranges: cannot read the sheet", e),
     }
 }
