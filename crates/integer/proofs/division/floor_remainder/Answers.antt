@@ -2,8 +2,8 @@
 use mathlib.Core.Path.{◌≡◌, sym, ap, ◌∙◌, subst}
 use Prim.Native.Nat.{◌<◌}
 use native.Mathlib.Omega.{arith}
-use lib.IntN.{nat_abs}
-use lib.Signed.{quot_z}
+use lib.IntN.{nat_abs, ◌+ℤ◌}
+use lib.Signed.{quot_z, rem_z}
 use mir.Syntax.{w64}
 use mir.Val.{SFits, to_z, of_z}
 use mir.ValLaws.{to_z-of_z}
@@ -41,7 +41,7 @@ returns-then-r-lt0 c =
     let moved =
     moved_by_positive a d (<ℤ_of_test (rw (to_z-of_z w64 _ r.d) at c.if-d-gt0.true)) (<ℤ_of_test (rw (remainder_gives r.a r.d) at c.if-r-lt0.true))
     in
-    rw (remainder_gives r.a r.d, to_z-of_z w64 _ r.d) (back_as moved.remainder (remainder_fits a d c.requires r.d))
+    rw (remainder_gives r.a r.d) (back_as (ap (λ x. rem_z a d +ℤ x) (to_z-of_z w64 _ r.d) ∙ moved.remainder) (remainder_fits a d c.requires r.d))
 
 pub returns-else-r-lt0 : goal.returns-else-r-lt0
 returns-else-r-lt0 c =
@@ -61,7 +61,7 @@ returns-then-r-gt0 c =
     let r = c.ranges in
     let below = ≥ℤ_of_test (rw (to_z-of_z w64 _ r.d) at c.if-d-gt0.false) in
     let moved = moved_by_negative a d c.requires below (<ℤ_of_test (rw (remainder_gives r.a r.d) at c.if-r-gt0.true)) in
-    rw (remainder_gives r.a r.d, to_z-of_z w64 _ r.d) (back_as moved.remainder (remainder_fits a d c.requires r.d))
+    rw (remainder_gives r.a r.d) (back_as (ap (λ x. rem_z a d +ℤ x) (to_z-of_z w64 _ r.d) ∙ moved.remainder) (remainder_fits a d c.requires r.d))
 
 pub returns-else-r-gt0 : goal.returns-else-r-gt0
 returns-else-r-gt0 c =
