@@ -6,7 +6,7 @@ use Prim.Native.Nat.{ℕ, zero, suc, ◌/◌, ◌%◌, ◌^◌, ◌≤◌, ◌<�
 use native.Mathlib.Nat.{div-add-mod', mod-lt, div-le_self, div-lt_self, le_of_suc-le-suc}
 use native.Mathlib.Omega.{arith}
 use lib.IntN.{ℤ, pos, negsuc, neg_ℤ, nat_abs, ◌+ℤ◌, ◌-ℤ◌, ◌*ℤ◌, neg_ℤ-neg_ℤ}
-use lib.Signed.{mag, quot_z, rem_z, ◌≤ℤ◌, ◌<ℤ◌}
+use lib.Signed.{mag, mag_rem, quot_z, rem_z, ◌≤ℤ◌, ◌<ℤ◌}
 use lib.Bits.{bit_and, and_mask}
 use mir.Syntax.{w64}
 use mir.Val.{SFits, to_z, of_z}
@@ -17,6 +17,7 @@ use Rattle.integer.proofs.IntegerRing.{ring_ℤ}
 use Rattle.integer.proofs.Linear.{lin_ℤ, ◌⊴◌, ◌⊲◌, ◌⇒◌, so}
 use Rattle.integer.proofs.Order.{≤_of_pos, pos-≤ℤ, product_nonneg}
 use Rattle.integer.proofs.Absolute.{nat_abs_neg, nat_abs_within, nat_abs_of_fits, above_low_end, fits_of_nat_abs}
+use Rattle.integer.proofs.Machine.{operation_gives}
 use Rattle.integer.proofs.Floor.{Divides, divides_turned, floor_unique, remainder_by, remainder_turned, nat_abs_remainder}
 
 -- q and r are the floor quotient and remainder
@@ -145,6 +146,14 @@ remainder_fits a d n f =
     let s = nat_abs_remainder a d n in
     let t = nat_abs_of_fits d f in
     fits_of_nat_abs (floor_remainder a d) (omega arith)
+
+-- ---- what the machine gives
+pub quotient_gives : {a d : ℤ} → SFits w64 a → SFits w64 d → SFits w64 (quot_z a d)
+    → to_z w64 (of_z w64 (quot_z (to_z w64 (of_z w64 a)) (to_z w64 (of_z w64 d)))) ≡ quot_z a d
+quotient_gives f g h = operation_gives quot_z f g h
+
+pub remainder_gives : {a d : ℤ} → SFits w64 a → SFits w64 d → to_z w64 (of_z w64 (rem_z (to_z w64 (of_z w64 a)) (to_z w64 (of_z w64 d)))) ≡ rem_z a d
+remainder_gives {a} {d} f g = operation_gives rem_z f g (sfits_le (mag_rem a d) f)
 
 -- ---- the low bits are the remainder by their power of 2
 low_bits : (a : ℤ) → SFits w64 a → of_z w64 a % 4096 ≡ remainder_by a 4096

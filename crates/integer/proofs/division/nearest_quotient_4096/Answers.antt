@@ -1,5 +1,5 @@
 -- `nearest_quotient_4096` meets its contract: a shift is the division rounded down; a number of halves leaves room for one more.
-use mathlib.Core.Path.{◌≡◌, ap, ◌∙◌}
+use mathlib.Core.Path.{ap, ◌∙◌}
 use mathlib.Core.Logic.{◌≢◌}
 use native.Mathlib.Omega.{arith}
 use lib.IntN.{ℤ, pos, nat_abs, ◌+ℤ◌}
@@ -8,7 +8,6 @@ use mir.Syntax.{w64}
 use mir.Val.{SFits}
 use mir.ValLaws.{to_z-of_z, sfits_le}
 use Rattle.integer.specs.Floor.{floor_quotient}
-use Rattle.integer.specs.Nearest.{nearest_quotient}
 use Rattle.integer.proofs.Absolute.{nat_abs_add, nat_abs_of_fits, fits_of_nat_abs}
 use Rattle.integer.proofs.Floor.{nat_abs_quotient_product, shift_is_floor}
 use Rattle.integer.proofs.NearestLaws.{nearest_by_halves}
