@@ -1,6 +1,6 @@
 use Rattle.std.proofs.Common.{◌≡◌, ℕ, ◌+◌, ◌-◌, ◌≤◌, List, ◌++◌, length, take, sym, ap, subst, ◌∙◌, arith, length-take, length-take-le, length-drop}
 use Rattle.std.proofs.Math.Seq.{take-append-add, take-append-le}
-use borrow.Rule.Slice.PartMut.{mid_of, post_of, put_mid, same_len_mid}
+use borrow.Rule.Slice.PartMut.{post_of, put_mid, same_len_mid}
 use Rattle.std.proofs.KnownBytes.{Consumes-trans}
 use Rattle.std.specs.Io.KnownBytes.{Consumes}
 use Rattle.streams.proofs.read_input.Goals as goal
@@ -12,9 +12,9 @@ filled at n k xs part p q = ap (λ m. take (m + n) (put_mid at k xs part)) (sym 
 
 pub loop-done-preserved : goal.loop-done-preserved
 loop-done-preserved g c =
-    let part : length c.read_some.new.buf ≡ length (mid_of c.loop-done.done (length c.loop-done.buf - c.loop-done.done) c.loop-done.buf) = c.read_some.ensures.buf_len_unchanged in
-    let whole : length (put_mid c.loop-done.done (length c.loop-done.buf - c.loop-done.done) c.loop-done.buf c.read_some.new.buf) ≡ length c.loop-done.buf = same_len_mid _ _ _ _ part in
+    let part = c.read_some.ensures.buf_len_unchanged in
     let some : c.in-Ok.more ≤ length c.loop-done.buf - c.loop-done.done = omega (arith, c.in-Ok.ensures.bound.0, length-take {A = ℕ}, length-drop {A = ℕ}) in
+    let whole = same_len_mid _ _ _ _ part in
     record {
       in_bounds = omega arith;
       len = whole ∙ c.loop-done.invariant.len;
