@@ -11,7 +11,7 @@ use native.Mathlib.Omega.{arith}
 use borrow.Author.Tests.{ltb-true, ltb-false}
 use lib.Dec.{ltb}
 use lib.IntN.{pos, negsuc}
-use Rattle.integer.proofs.Ring.{var, con, ◌⊕◌, ◌⊗◌, neg, ring}
+use Rattle.integer.proofs.Ring.{var, con, ◌⊕◌, ◌⊗◌, neg}
 use Rattle.integer.proofs.Certificate.{OrderedRing, certify, hyp, eqn, ◌⊞◌, ◌≼◌, ◌≋◌, ◌⊢◌}
 use Rattle.integer.proofs.Order.{pos-≤ℤ}
 use Rattle.integer.proofs.Bound.{Bound, bound_cong, quotient_within_one, zero_within_one, whole_le, cancel_le, le_cong, le_refl}

@@ -1,18 +1,16 @@
 -- `evaluate` ends as its definition does: the schedule's test, the length of either table, or the work.
 use mathlib.Core.Path.{◌≡◌, sym, ap, ◌∙◌, subst}
-use mathlib.Core.Logic.{⊎_elim, ◌⊎◌, inl, inr}
 use mathlib.Core.List.{List, []}
 use Prim.Native.Nat.{ℕ, ◌-◌, ◌*◌, ◌≤◌, ◌<◌}
 use native.Mathlib.Omega.{arith}
 use lib.IntN.{ℤ}
 use lib.ListN.{length}
-use Rattle.affine.specs.Limits.{symbols}
 use Rattle.sheet.specs.declared.Refusal.{Refusal}
 use Rattle.sheet.specs.declared.Schedule.{Schedule}
 use Rattle.sheet.specs.Writing.{test_of}
-use Rattle.sheet.proofs.Passed.{Passed, passed}
+use Rattle.sheet.proofs.Passed.{passed}
 use Rattle.evaluation.specs.Table.{row_width, range_width, table_after, ranges_after}
-use Rattle.evaluation.specs.Work.{row_count, Worked, stopped, worked, table_too_short, evaluated}
+use Rattle.evaluation.specs.Work.{Worked, stopped, worked, evaluated}
 use Rattle.evaluation.specs.Ranges.{answered_ranges}
 use Rattle.evaluation.proofs.EvaluationEnds.{nothing_put, nothing_told, ends_tested, ends_short, ends_short_ranges, ends_worked}
 use Rattle.evaluation.proofs.RowLines.{rows_few}

@@ -1,6 +1,5 @@
 -- `asking::rows_refusal` meets its contract: the refusal by 9 or 8, and then those by 6, of the lower row first.
 use mathlib.Core.Path.{◌≡◌, sym, ap, ◌∙◌}
-use mathlib.Core.Logic.{⊎_elim}
 use mathlib.Core.Bool.{Bool, false}
 use mathlib.Core.List.{List}
 use Prim.Native.Nat.{ℕ, ◌≤◌, min, max}
