@@ -89,7 +89,7 @@ work_rows-refusal-requires-clause-passed c =
     (passed s (told_zero s c.test-tested.ensures c.if-tested-ne0.false), c.row_count-rows.ensures)
 
 pub overflow_sub-worked : goal.overflow_sub-worked
-overflow_sub-worked c = (stopped_work c.args.schedule c.row_count-rows.result c.work_rows-refusal.ensures.answer c.if-refusal-eq0.false).0
+overflow_sub-worked c = omega (arith, (stopped_work c.args.schedule c.row_count-rows.result c.work_rows-refusal.ensures.answer c.if-refusal-eq0.false).0)
 
 pub narrow-requires : goal.narrow-requires
 narrow-requires c =
