@@ -1,5 +1,5 @@
 -- The laws, from the number field up to the theorems. `RoundTrip` and `FirstFault` have the four theorems on sheets, `Passed` what evaluation cites;
--- a library that writes lines of its own needs `numeral_short` (`Decimal`), `line_short` (`FieldLine`) and `Wrote-then` (`Written`).
+-- a library that writes lines of its own needs `numeral_short` (`Decimal`), `line_short` (`FieldLine`) and `wrote_then` (`Written`).
 pub mod Choice
 pub mod Signs
 pub mod Digits
