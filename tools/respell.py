@@ -239,4 +239,5 @@ def main():
             write(path, in_page(read(path), turn, names))
 
 
-main()
+if __name__ == "__main__":
+    main()

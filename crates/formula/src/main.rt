@@ -106,7 +106,8 @@ fn inputs_given(rt: &impl Env, count: usize) -> Given {
     }
 }
 
-// Fills the bytes with the formula, as far as there is room: how many bytes it has there.
+// Fills the bytes with the formula, as far as there is room: how many bytes it has there. Of one that is too long the runtime leaves the first bytes
+// there.
 fn formula_given(rt: &impl Env, formula: &mut [u8; FORMULA_ROOM]) -> usize
     ensures { result ≤ length formula.new }
 {

@@ -12,7 +12,7 @@ use mir.Syntax.{w64}
 use mir.Val.{SFits, to_z, of_z}
 use mir.ValLaws.{to_z-of_z}
 
--- of an element read, `back c.x.given`; of a call's result, `back c.f.ok`
+-- of an element read, `back c.x.given`; of a call's result, `back c.f.type_inv`
 pub back : {z : ℤ} → mag z < 2 ^ 63 → to_z w64 (of_z w64 z) ≡ z
 back {z} l = to_z-of_z w64 z (record { sfits = l })
 

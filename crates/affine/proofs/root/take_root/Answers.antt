@@ -8,12 +8,6 @@ use Rattle.integer.proofs.Machine.{≥ℤ_of_test}
 use Rattle.affine.specs.Root.{below_one, root_from}
 use Rattle.affine.proofs.root.take_root.Goals as goal
 
-pub returns-then-low-lt1 : goal.returns-then-low-lt1
-returns-then-low-lt1 c =
-    let e : to_z w64 (of_z w64 c.args.range.low) ≡ c.args.range.low = search rules in
-    let under : below_one c.args.range ≡ true = rw e at c.if-low-lt1.true in
-    rw under c.refusal.ensures
-
 -- the low end is not below 1
 pub root_from-requires : goal.root_from-requires
 root_from-requires c =
@@ -28,3 +22,9 @@ returns c =
     let e : to_z w64 (of_z w64 g.range.low) ≡ g.range.low = search rules in
     let otherwise : below_one g.range ≡ false = rw e at c.if-low-lt1.false in
     rw otherwise (c.root_from.ensures ∙ ap (root_from g.squares g.own g.x) e)
+
+pub returns-then-low-lt1 : goal.returns-then-low-lt1
+returns-then-low-lt1 c =
+    let e : to_z w64 (of_z w64 c.args.range.low) ≡ c.args.range.low = search rules in
+    let under : below_one c.args.range ≡ true = rw e at c.if-low-lt1.true in
+    rw under c.refusal.ensures
