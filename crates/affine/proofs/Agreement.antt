@@ -7,7 +7,7 @@ use Prim.Native.Nat.{ℕ, zero, suc}
 use lib.IntN.{ℤ, pos}
 use lib.Seq.{get_or-set_other}
 use Rattle.affine.specs.declared.Row.{Row}
-use Rattle.affine.specs.declared.Status.TheVariants.{Accepted}
+use Rattle.affine.specs.Answer.{Accepted}
 use Rattle.affine.specs.Limits.{symbols, pairs}
 use Rattle.affine.specs.Lists.{pick, at, tabulate}
 use Rattle.affine.specs.PairOrder.{in_use}

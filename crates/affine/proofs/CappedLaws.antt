@@ -1,7 +1,8 @@
 -- A sum that stops one above the span limit: stopping early changes neither the sum so stopped nor the test of it.
 use mathlib.Core.Path.{◌≡◌, refl, sym, ap, ◌∙◌}
 use mathlib.Core.List.{List}
-use Prim.Native.Nat.{ℕ, suc, ◌+◌, ◌≤◌, ◌<◌}
+use native.Mathlib.Decide.{dec_le}
+use Prim.Native.Nat.{min, ℕ, suc, ◌+◌, ◌≤◌, ◌<◌}
 use native.Mathlib.Nat.{add-zero, zero-add, add_assoc}
 use native.Mathlib.Omega.{arith}
 use lib.Dec.{leb}
@@ -76,3 +77,10 @@ capped_stays {n} {xs} {start} {i} s = rw s.so_far (capped_le (start + sum_abs (t
 
 pub capped_all : {n : ℕ} {xs : List ℤ} {start i total : ℕ} → Capped n xs start i total → length xs ≡ n → n ≤ i → total ≡ capped (start + sum_abs xs)
 capped_all {n} {xs} {start} {i} s long h = s.so_far ∙ ap (λ m. capped (start + m)) (sum_abs_all xs i (omega arith))
+
+pub capped_min : (n : ℕ) → min n (suc span_limit) ≡ capped n
+capped_min n =
+    elim (dec_le n span_limit) [
+      | yes l ↦ omega (arith, capped_below n l)
+      | no h ↦ let over : span_limit < n = omega arith in omega (arith, capped_above n over)
+    ]

@@ -37,6 +37,10 @@ at_next {j} {i} {k} h l here =
 pub at_symbols : {j i k : ℕ} → j < paired → i ≤ j → AtPair j i k → (k < pairs) × (first_of k ≡ i) × (second_of k ≡ j)
 at_symbols {j} {i} h l here = rw (here.place l) (index_below paired i j l h, first_at_index paired i j l h, second_at_index paired i j l h)
 
+-- no other pair has the same symbols
+pub index_alone : {j i k : ℕ} → j < paired → i ≤ j → AtPair j i k → {m : ℕ} → m < pairs → first_of m ≡ i → second_of m ≡ j → m ≡ k
+index_alone {j} {i} {k} h l here {m} b e f = sym (index_of_symbols paired m b) ∙ ap₂ (index_in paired) e f ∙ sym (here.place l)
+
 -- ---- f at the pairs of the columns before j, and at the first i pairs of column j
 -- its place in this order, and whether it is passed
 abbrev columnwise : ℕ → ℕ

@@ -15,7 +15,7 @@ use Rattle.integer.proofs.Linear.{lin_ℤ, ◌≗◌, ◌⇒◌, so}
 use Rattle.integer.proofs.Absolute.{nat_abs_neg}
 use Rattle.affine.specs.declared.Row.{Row}
 use Rattle.affine.specs.declared.Range.{Range}
-use Rattle.affine.specs.declared.Status.TheVariants.{ZeroInRange}
+use Rattle.affine.specs.Answer.{ZeroInRange}
 use Rattle.affine.specs.Lists.{pick}
 use Rattle.affine.specs.Row.{pairs_below, pairs_above, low, high, form_range}
 use Rattle.affine.specs.Steps.{refused}

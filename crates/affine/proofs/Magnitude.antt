@@ -6,7 +6,7 @@ use mathlib.Core.List.{List}
 use Prim.Native.Nat.{ℕ, zero, suc, ◌+◌, ◌-◌, ◌*◌, ◌^◌, ◌≤◌, ◌<◌}
 use native.Mathlib.Nat.{le_refl, le_trans, mul_comm, mul-add, add-mul, mul-le-mul}
 use native.Mathlib.Omega.{arith}
-use borrow.Author.Tests.{ltb-true, eq-eqb, ne_eqb}
+use borrow.Author.Tests.{ltb-true, lt-ltb, eq-eqb, ne_eqb}
 use lib.Dec.{eqb, ltb}
 use lib.IntN.{ℤ, pos, nat_abs, ◌+ℤ◌, ◌*ℤ◌}
 use lib.ListN.{take}
@@ -18,13 +18,13 @@ use Rattle.integer.specs.Sum.{sum_abs}
 use Rattle.integer.proofs.Sum.{sum_abs_append, sum_abs_take}
 use Rattle.affine.specs.Lists.{pick, at, tabulate}
 use Rattle.affine.specs.declared.Row.{Row}
-use Rattle.affine.specs.Limits.{symbols, pairs, paired}
+use Rattle.affine.specs.Limits.{symbols, pairs, paired, span_limit}
 use Rattle.affine.specs.PairOrder.{over_pairs, first_of, second_of, in_use}
 use Rattle.affine.specs.Row.{span, radius}
-use Rattle.affine.specs.Product.{meeting, crosswise, linear_totals, pair_totals, squared_radius, dropped}
-use Rattle.affine.proofs.Lists.{pick_elim}
-use Rattle.affine.proofs.PairSymbols.{tabulate_pairs}
-use Rattle.affine.proofs.RowSize.{span_is_sum, centre_within}
+use Rattle.affine.specs.Product.{meeting, crosswise, linear_total, linear_totals, pair_total, pair_totals, squared_radius, dropped}
+use Rattle.affine.proofs.Lists.{pick_elim, at_tabulate}
+use Rattle.affine.proofs.PairSymbols.{tabulate_pairs, second_below}
+use Rattle.affine.proofs.RowSize.{span_is_sum, element_within, centre_within, linear_at_within, pair_at_within}
 use Rattle.affine.proofs.SumLaws.{sum_abs_tabulate_at, sum_abs_tabulate_within}
 
 -- two products and their sum, of first factors that are at most m and second factors at most n
@@ -167,3 +167,31 @@ module _ (squares : ℕ) (x y : Row) where
 
   pub centre_product_within : {n : ℕ} → span x ≤ n → span y ≤ n → nat_abs (x.centre *ℤ y.centre) ≤ n * n
   centre_product_within hx hy = nat_abs_mul_within x.centre y.centre (centre_within x hx) (centre_within y hy)
+
+-- a total of two rows within the span limit fits
+pub pair_total_fits : (x y : Row) → span x ≤ span_limit → span y ≤ span_limit → (k : ℕ) → SFits w64 (pair_total x y k)
+pair_total_fits x y hx hy k =
+    let w =
+    two_products span_limit span_limit x.centre (at y.pair k) y.centre (at x.pair k) (omega arith)
+    (centre_within x hx) (pair_at_within y hy k) (centre_within y hy) (pair_at_within x hx k) in
+    let m = meeting_within x.linear y.linear (omega arith) (linear_at_within x hx) (linear_at_within y hy) (first_of k) (second_of k) in
+    fits_within (pair_total x y k) (4 * (span_limit * span_limit))
+    (nat_abs_add_within (crosswise x.centre (at y.pair k) y.centre (at x.pair k)) (meeting x.linear y.linear (first_of k) (second_of k)) w.both m) (omega arith)
+
+pub centre_product_fits : (x y : Row) → span x ≤ span_limit → span y ≤ span_limit → SFits w64 (x.centre *ℤ y.centre)
+centre_product_fits x y hx hy = fits_within (x.centre *ℤ y.centre) (span_limit * span_limit) (centre_product_within 0 x y hx hy) (omega arith)
+
+-- no total alone is above the product of the spans
+module _ (x y : Row) {n : ℕ} (hx : span x ≤ n) (hy : span y ≤ n) where
+  pub linear_total_within : (i : ℕ) → i < symbols → nat_abs (linear_total x y i) ≤ n * n
+  unfolding linear_totals
+  linear_total_within i h =
+      let all : sum_abs (linear_totals x y) ≤ n * n = omega (arith, totals_within 0 x y hx hy) in
+      rw (← (at_tabulate symbols (linear_total x y) i h)) (element_within (linear_totals x y) all i)
+
+  pub pair_total_within : (k : ℕ) → k < pairs → nat_abs (pair_total x y k) ≤ n * n
+  unfolding pair_totals
+  pair_total_within k h =
+      let all : sum_abs (pair_totals paired x y) ≤ n * n = omega (arith, totals_within paired x y hx hy) in
+      let e = rw (lt-ltb (second_of k) paired (second_below k)) at (at_tabulate pairs (λ k. pick (in_use paired k) (pair_total x y k) (pos 0)) k h) in
+      rw (← e) (element_within (pair_totals paired x y) all k)

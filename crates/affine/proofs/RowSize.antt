@@ -48,3 +48,7 @@ module _ {n : ℕ} (r : Row) (h : span r ≤ n) where
   -- the row without its pair coefficients
   pub unpaired_within : span (row_of_parts r.centre r.linear []) ≤ n
   unpaired_within = omega (arith, span_is_sum r, span_is_sum (row_of_parts r.centre r.linear []))
+
+-- a radius that is told, against the linear coefficients and the span
+pub radius_told : (r : Row) {m n : ℕ} → m ≡ radius r → span r ≤ n → (sum_abs r.linear ≤ m) × (m ≤ n)
+radius_told r e h = (omega (arith, e, linear_within_radius r), omega (arith, e, radius_within r h))

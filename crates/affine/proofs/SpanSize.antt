@@ -39,7 +39,7 @@ span_zip op triangle x y =
       joined_within op triangle pairs x.pair y.pair,
     )
 
-span_map : (f : ℤ → ℤ) → ((z : ℤ) → nat_abs (f z) ≤ nat_abs z) → (r : Row) → span (map_row f r) ≤ span r
+pub span_map : (f : ℤ → ℤ) → ((z : ℤ) → nat_abs (f z) ≤ nat_abs z) → (r : Row) → span (map_row f r) ≤ span r
 span_map f h r = omega (arith, span_is_sum (map_row f r), span_is_sum r, h r.centre, sum_abs_map f h r.linear, sum_abs_map f h r.pair)
 
 pub span_product : (squares own : ℕ) (x y : Row) {n : ℕ} → span x ≤ n → span y ≤ n

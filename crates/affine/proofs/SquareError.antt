@@ -111,3 +111,8 @@ module _ (squares : ℕ) (x z : Row) (ux : UsesOnly squares x) where
 
   pub misses_of_totals : misses squares x z ≡ zip_rows missed x (totals squares z z)
   misses_of_totals = λ i. record { centre = missed x.centre (z.centre *ℤ z.centre); linear = linear_missed i; pair = pair_missed_of_totals i }
+
+-- what all totals miss, without the dropped part
+pub misses_within : (squares : ℕ) (x z : Row) {n : ℕ} → span x ≤ n → span z ≤ n → span (misses squares x z) ≤ n * n + unit * n
+unfolding square_error
+misses_within squares x z hx hz = let h = square_error_within squares x z hx hz in omega arith

@@ -5,7 +5,7 @@ use Prim.Native.Nat.{ℕ, zero, suc, ◌+◌, ◌*◌, ◌≤◌, ◌<◌}
 use native.Mathlib.Nat.{mul-add, mul-suc}
 use native.Mathlib.Omega.{arith}
 use lib.IntN.{ℤ, pos, nat_abs}
-use lib.ListN.{length, take, set, replicate}
+use lib.ListN.{length, length-map, take, set, replicate}
 use Rattle.integer.specs.Sum.{sum_abs}
 use Rattle.integer.proofs.Sum.{sum_abs_more, sum_abs_take}
 use Rattle.affine.specs.Lists.{at, tabulate, sum}
@@ -101,3 +101,13 @@ sum_abs_map f h (x ∷ xs) = let rest = sum_abs_map f h xs in omega (arith, h x)
 pub sum_abs_zeros : (n : ℕ) → sum_abs (replicate n (pos 0)) ≡ 0
 sum_abs_zeros zero = refl
 sum_abs_zeros (suc n) = let rest = sum_abs_zeros n in omega arith
+
+-- ---- a function of each number
+at_map_lt : (f : ℤ → ℤ) (xs : List ℤ) (i : ℕ) → i < length xs → at (map f xs) i ≡ f (at xs i)
+at_map_lt f [] i h = absurd (omega arith)
+at_map_lt f (x ∷ xs) zero h = refl
+at_map_lt f (x ∷ xs) (suc i) h = at_map_lt f xs i (omega arith)
+
+pub sum_abs_map_more : (f : ℤ → ℤ) (xs : List ℤ) (i : ℕ) → i < length xs
+    → sum_abs (take (i + 1) (map f xs)) ≡ sum_abs (take i (map f xs)) + nat_abs (f (at xs i))
+sum_abs_map_more f xs i h = rw (← (at_map_lt f xs i h)) (sum_abs_more (map f xs) i (omega (arith, length-map xs f)))

@@ -8,8 +8,8 @@ use Rattle.integer.specs.Sum.{sum_abs}
 use Rattle.affine.specs.declared.Row.{Row}
 use Rattle.affine.specs.Limits.{symbols, pairs}
 use Rattle.affine.specs.Row.{row_of_parts, radius, NoneFrom}
-use Rattle.affine.specs.Product.{linear_total, linear_totals, pair_totals, squared_radius, dropped}
-use Rattle.affine.proofs.Lists.{length_tabulate}
+use Rattle.affine.specs.Product.{linear_total, linear_totals, pair_totals, totals, squared_radius, dropped}
+use Rattle.affine.proofs.Lists.{length_tabulate, at_tabulate_zero}
 
 pub length_linear_totals : (x y : Row) → length (linear_totals x y) ≡ symbols
 unfolding linear_totals
@@ -39,3 +39,7 @@ dropped_of_radii squares x y e f = rw (e, f)
 -- symbols of which neither row has a coefficient
 pub linear_total_none : (x y : Row) (own : ℕ) → NoneFrom own x.linear → NoneFrom own y.linear → (i : ℕ) → own ≤ i → linear_total x y i ≡ pos 0
 linear_total_none x y own hx hy i l = rw (hx i l, hy i l) (simp *ℤ-zero)
+
+pub totals_none : (squares : ℕ) (x y : Row) (own : ℕ) → NoneFrom own x.linear → NoneFrom own y.linear → NoneFrom own (totals squares x y).linear
+unfolding linear_totals
+totals_none squares x y own hx hy i l = at_tabulate_zero symbols (linear_total x y) i (λ h. linear_total_none x y own hx hy i l)

@@ -2,7 +2,7 @@
 -- and second with second, agree in the numbers that 01 names for a total, the results agree in the number made from it, the own coefficient aside".
 use Rattle.std.specs.Prelude.{◌≡◌, ◌≢◌, List, [], ◌∷◌, ℕ, ℤ}
 use Rattle.affine.specs.declared.Row.{Row}
-use Rattle.affine.specs.declared.Status.TheVariants.{Accepted}
+use Rattle.affine.specs.Answer.{Accepted}
 use Rattle.affine.specs.Lists.{pick, at}
 use Rattle.affine.specs.PairOrder.{first_of, second_of, in_use}
 use Rattle.affine.specs.Product.{product}

@@ -2,7 +2,9 @@ pub mod Limits
 pub mod Lists
 pub mod PairOrder
 pub mod Row
+pub mod Answer
 pub mod Steps
+pub mod Told
 pub mod Product
 pub mod Agreement
 pub mod Reciprocal

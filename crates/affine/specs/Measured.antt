@@ -1,8 +1,8 @@
 -- How the code measures a new row: the span test, and the range of its form from the same sum of absolute coefficients. From that sum it comes to the ends
 -- by going from pair (i,i) to pair (i,i), whose products reach to one side of 0 only. (Not of the specification.)
-use Rattle.std.specs.Prelude.{Bool, true, false, List, ℕ, zero, suc, ◌+◌, ℤ, pos}
+use Rattle.std.specs.Prelude.{Bool, true, List, Option, Some, None, ℕ, zero, suc, ◌+◌, ℤ}
 use Rattle.affine.specs.declared.Row.{Row}
-use Rattle.affine.specs.declared.form_range.Measured.{Measured}
+use Rattle.affine.specs.declared.form_range.Size.{Size}
 use Rattle.affine.specs.Limits.{paired}
 use Rattle.affine.specs.Lists.{pick, at}
 use Rattle.affine.specs.Row.{pair_below, pair_above, radius, within_span, form_range}
@@ -19,9 +19,6 @@ squares_from above p (suc n) k = square_reach above (at p k) + squares_from abov
 abbrev pub squares_reach : Bool → List ℤ → ℕ
 squares_reach above p = squares_from above p paired 0
 
--- whether a row is within the span limit, its radius, and where it is within, the range of its form
-abbrev pub measured : Row → Measured
-measured r =
-    pick (within_span r)
-    (record { within = true; radius = radius r; range = form_range r })
-    (record { within = false; radius = radius r; range = record { low = pos 0; high = pos 0 } })
+-- of a row within the span limit, its radius and the range of its form
+abbrev pub measured : Row → Option Size
+measured r = pick (within_span r) (Some (record { radius = radius r; range = form_range r })) None

@@ -4,7 +4,7 @@ use Rattle.integer.specs.Floor.{ceiling_quotient}
 use Rattle.integer.specs.Nearest.{nearest_quotient, nearest_remainder}
 use Rattle.integer.specs.Sum.{sum_abs}
 use Rattle.affine.specs.declared.Row.{Row}
-use Rattle.affine.specs.declared.Answer.{Answer}
+use Rattle.affine.specs.Answer.{Answer}
 use Rattle.affine.specs.Limits.{symbols, unit}
 use Rattle.affine.specs.Lists.{pick, at, tabulate}
 use Rattle.affine.specs.PairOrder.{first_of, second_of, over_used}

@@ -6,8 +6,8 @@ use Rattle.integer.specs.Floor.{floor_quotient, ceiling_quotient}
 use Rattle.integer.specs.Sum.{sum_abs}
 use Rattle.affine.specs.declared.Row.{Row}
 use Rattle.affine.specs.declared.Range.{Range}
-use Rattle.affine.specs.declared.Status.TheVariants.{SpanPassed, ZeroInRange}
-use Rattle.affine.specs.declared.Answer.{Answer}
+use Rattle.affine.specs.Answer.{SpanPassed, ZeroInRange}
+use Rattle.affine.specs.Answer.{Answer}
 use Rattle.affine.specs.Limits.{symbols, unit_squared}
 use Rattle.affine.specs.Lists.{pick, at, tabulate}
 use Rattle.affine.specs.PairOrder.{first_of, second_of, over_used}

@@ -6,8 +6,8 @@ use Rattle.integer.specs.Floor.{floor_quotient, ceiling_quotient}
 use Rattle.integer.specs.Root.{integer_root}
 use Rattle.affine.specs.declared.Row.{Row}
 use Rattle.affine.specs.declared.Range.{Range}
-use Rattle.affine.specs.declared.Status.TheVariants.{SpanPassed, NoRoot}
-use Rattle.affine.specs.declared.Answer.{Answer}
+use Rattle.affine.specs.Answer.{SpanPassed, NoRoot}
+use Rattle.affine.specs.Answer.{Answer}
 use Rattle.affine.specs.Limits.{symbols, pairs, unit, half_unit}
 use Rattle.affine.specs.Lists.{pick, at, tabulate}
 use Rattle.affine.specs.PairOrder.{over_used}

@@ -3,9 +3,9 @@ use Rattle.std.specs.Prelude.{map, ℕ, ℤ, pos, ◌+ℤ◌, ◌-ℤ◌, set, r
 use Rattle.integer.specs.Floor.{floor_quotient}
 use Rattle.affine.specs.declared.Row.{Row}
 use Rattle.affine.specs.declared.Range.{Range}
-use Rattle.affine.specs.declared.Status.{Status}
-use Rattle.affine.specs.declared.Status.TheVariants.{Accepted, SpanPassed, ZeroInRange, NoRoot}
-use Rattle.affine.specs.declared.Answer.{Answer}
+use Rattle.affine.specs.Answer.{Status}
+use Rattle.affine.specs.Answer.{Accepted, SpanPassed, ZeroInRange, NoRoot}
+use Rattle.affine.specs.Answer.{Answer}
 use Rattle.affine.specs.Limits.{symbols, pairs}
 use Rattle.affine.specs.Lists.{pick, at, tabulate}
 use Rattle.affine.specs.Row.{radius, within_span, form_range}

@@ -2,13 +2,14 @@
 ghost use Rattle.std.specs.Prelude.{true, false, ◌≡◌, ◌+◌, ◌-◌, ◌^◌, ◌≤◌, ◌<◌, pos, nat_abs, ◌+ℤ◌, ◌-ℤ◌, length};
 ghost use Rattle.integer.specs.Sum.{sum_abs};
 ghost use Rattle.affine.specs.Limits.{pairs, span_limit};
-ghost use Rattle.affine.specs.Row.{row_of_parts, span, pairs_below, pairs_above};
+ghost use Rattle.affine.specs.Row.{span, pairs_below, pairs_above};
 ghost use Rattle.affine.specs.Measured.{square_reach, squares_reach, measured};
 
-use crate::Range;
-use crate::limits::{PAIRED, PAIRS, SPAN_LIMIT, SYMBOLS};
+use crate::limits::{PAIRED, PAIRS, SPAN_LIMIT};
+use crate::sums::absolutes;
+use crate::{Range, Row};
 
-// How far the term of a pair (i,i), whose product is never negative, goes above 0.
+// How far the term of a pair (i,i), whose product is never negative, goes above 0. By the sign, as the definition: with `max` the proof stays open.
 fn square_above(v: i64) -> u64
     ensures { result ≡ square_reach true v }
 {
@@ -29,14 +30,13 @@ fn sum_squares(p: &[i64; PAIRS]) -> Squares
 {
     let mut above: u64 = 0;
     let mut sum: i64 = 0;
+    // an index: the pairs (i,i) stand at falling distances
     let mut k: usize = 0;
-    let mut left = PAIRED;
-    while left > 0 {
+    for i in 0..PAIRED {
         let v = p[k];
         above += square_above(v);
         sum += v;
-        k += left;
-        left -= 1;
+        k += PAIRED - i;
     }
     Squares { above, sum }
 }
@@ -56,33 +56,26 @@ fn range_around(c: i64, radius: u64, p: &[i64; PAIRS]) -> Range
     }
 }
 
-// Whether a row is within the span limit, its radius, and where it is within, the range of its form.
+// The radius of a row within the span limit, and the range of its form.
 #[derive(Clone, Copy)]
-pub struct Measured {
-    pub within: bool,
+pub struct Size {
     pub radius: u64,
     pub range: Range,
 }
 
-// The span test, the radius and the range of a row, by its parts, where the sum does not wrap: one sum of the absolute values serves all three.
-// The parts are lent and summed here, so that the test is a call of its own and no row is copied for it.
-pub fn measure<'a>(c: i64, l: &'a [i64; SYMBOLS], p: &'a [i64; PAIRS]) -> Measured
-    requires { (length p.now ≡ pairs) × (span (row_of_parts c l.now p.now) < 2 ^ 64) }
-    ensures { result ≡ measured (row_of_parts c l.now p.now) }
+// The span test of a row whose span does not wrap: one sum of the absolute values serves the test, the radius and the range.
+#[inline(never)]
+pub fn measure(row: &Row) -> Option<Size>
+    requires { span row.now < 2 ^ 64 }
+    ensures { result ≡ measured row.now }
 {
-    let radius = crate::sums::absolutes(l) + crate::sums::absolutes(p);
-    if integer::magnitude::absolute(c) + radius <= SPAN_LIMIT {
-        let range = range_around(c, radius, p);
-        Measured {
-            within: true,
+    let radius = absolutes(&row.linear) + absolutes(&row.pair);
+    if row.centre.unsigned_abs() + radius <= SPAN_LIMIT {
+        Some(Size {
             radius,
-            range,
-        }
+            range: range_around(row.centre, radius, &row.pair),
+        })
     } else {
-        Measured {
-            within: false,
-            radius,
-            range: Range { low: 0, high: 0 },
-        }
+        None
     }
 }

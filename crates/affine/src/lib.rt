@@ -3,8 +3,10 @@
 // `within_span` and `same_numbers` tell of rows.
 #![tactic(auto)]
 
+mod by_index;
 mod form_range;
 pub mod limits;
+pub mod operands;
 pub mod product;
 pub mod reciprocal;
 pub mod root;
@@ -28,20 +30,17 @@ pub struct Range {
     pub high: i64,
 }
 
-// How an operation ended.
-#[derive(Clone, Copy)]
-pub enum Status {
-    Accepted,
+// Why an operation has no row.
+#[derive(Clone, Copy, Debug, PartialEq, Eq)]
+pub enum NoRow {
     SpanPassed,
     ZeroInRange,
     NoRoot,
 }
 
-// The answer of an operation: where it was accepted the row, the sum of its absolute coefficients (its radius) and its own range, zeros beside
-// a refusal.
+// A row that an operation made, the sum of its absolute coefficients (its radius) and its own range.
 #[derive(Clone, Copy)]
-pub struct Answer {
-    pub status: Status,
+pub struct Made {
     pub row: Row,
     pub radius: u64,
     pub range: Range,

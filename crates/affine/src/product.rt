@@ -1,23 +1,20 @@
 // The product of two rows.
-ghost use Rattle.std.specs.Prelude.{◌≡◌, [], map, ℕ, suc, ◌-◌, ◌*◌, ◌≤◌, ◌<◌, pos, nat_abs, ◌+ℤ◌, ◌*ℤ◌, length, take, set, replicate};
+ghost use Rattle.std.specs.Prelude.{◌≡◌, map, ℕ, ◌-◌, ◌*◌, ◌≤◌, ◌<◌, pos, nat_abs, ◌+ℤ◌, ◌*ℤ◌, length, take, set, replicate};
 ghost use Rattle.integer.specs.Sum.{sum_abs};
 ghost use Rattle.affine.specs.Limits.{symbols, pairs, paired, span_limit};
 ghost use Rattle.affine.specs.Lists.{at, pick};
 ghost use Rattle.affine.specs.PairOrder.{first_of, second_of};
-ghost use Rattle.affine.specs.Row.{span, radius, row_of_parts, NoneFrom};
-ghost use Rattle.affine.specs.Product.{
-  meeting,
-  crosswise,
-  linear_total,
-  linear_totals,
-  pair_total,
-  pair_totals,
-  product_rounding,
-  product,
-};
+ghost use Rattle.affine.specs.Row.{span, NoneFrom};
+ghost use Rattle.affine.specs.Product.{meeting, crosswise, linear_total, pair_total, totals, product_rounding, product};
+ghost use Rattle.affine.specs.Steps.{map_row};
+ghost use Rattle.affine.specs.Told.{answer_of};
 
-use crate::limits::{PAIRED, PAIRS, SYMBOLS, UNIT};
-use crate::{Answer, Row};
+use crate::by_index::{front, pairs_in_use};
+use crate::limits::{SYMBOLS, UNIT};
+use crate::operands::{Operand, Symbols};
+use crate::steps::check_with_own;
+use crate::{Made, NoRow, Row};
+use integer::division::{ceiling_quotient, nearest_quotient_4096, nearest_remainder_4096};
 
 // c times the second row's number plus d times the first's, from the centres c and d and the numbers b of the second row and a of the first.
 fn crosswise_total(c: i64, b: i64, d: i64, a: i64) -> i64
@@ -27,58 +24,12 @@ fn crosswise_total(c: i64, b: i64, d: i64, a: i64) -> i64
     c * b + d * a
 }
 
-// The total of the symbol at index i. Rows are lent part by part here and to the loops: a row by value is copied at each call.
-pub fn linear_total<'a, 'b>(
-    c: i64,
-    a: &'a [i64; SYMBOLS],
-    d: i64,
-    b: &'b [i64; SYMBOLS],
-    i: usize,
-) -> i64
-    requires i_lt_symbols { i < symbols }
-    requires a_bound { (span (row_of_parts c a.now []) ≤ span_limit) × (span (row_of_parts d b.now []) ≤ span_limit) }
-    ensures { result ≡ linear_total (row_of_parts c a.now []) (row_of_parts d b.now []) i }
+// The total of the symbol at index i.
+pub fn linear_total(x: &Row, y: &Row, i: usize) -> i64
+    requires { (i < symbols) × (span x.now ≤ span_limit) × (span y.now ≤ span_limit) }
+    ensures { result ≡ linear_total x.now y.now i }
 {
-    let ai = a[i];
-    let bi = b[i];
-    crosswise_total(c, bi, d, ai)
-}
-
-// Puts the quotient of a total where a 0 stands, and answers the absolute remainder. A total of 0 leaves the 0.
-fn put_quotient(out: &mut [i64], i: usize, t: i64) -> u64
-    requires { (i < length out.old) × (at out.old i ≡ pos 0) }
-    ensures quotient { out.new ≡ set out.old i (product_rounding.quotient t) }
-    ensures remainder { result ≡ nat_abs (product_rounding.remainder t) }
-{
-    if t == 0 {
-        return 0;
-    }
-    out[i] = integer::division::nearest_quotient_4096(t);
-    integer::division::nearest_remainder_4096(t)
-}
-
-// Puts the quotients of all symbols' totals into zeros, and answers the sum of the absolute remainders. Neither row has a coefficient from own on.
-fn put_linear<'a, 'b>(
-    out: &mut [i64],
-    c: i64,
-    a: &'a [i64; SYMBOLS],
-    d: i64,
-    b: &'b [i64; SYMBOLS],
-    own: usize,
-) -> u64
-    requires own_le_symbols { (own ≤ symbols) × (out.old ≡ replicate symbols (pos 0)) × NoneFrom own a.now × NoneFrom own b.now }
-    requires a_bound { (span (row_of_parts c a.now []) ≤ span_limit) × (span (row_of_parts d b.now []) ≤ span_limit) }
-    ensures quotients { out.new ≡ map product_rounding.quotient (linear_totals (row_of_parts c a.now []) (row_of_parts d b.now [])) }
-    ensures remainders { result ≡ sum_abs (map product_rounding.remainder (linear_totals (row_of_parts c a.now []) (row_of_parts d b.now []))) }
-{
-    let mut remainders: u64 = 0;
-    let mut i: usize = 0;
-    while i < own {
-        let t = linear_total(c, a, d, b, i);
-        remainders += put_quotient(&mut *out, i, t);
-        i += 1;
-    }
-    remainders
+    crosswise_total(x.centre, y.linear[i], y.centre, x.linear[i])
 }
 
 // The products of linear coefficients that meet in a pair; square: in a pair (i,i).
@@ -103,79 +54,72 @@ pub fn meeting_at(a: &[i64; SYMBOLS], b: &[i64; SYMBOLS], i: usize, j: usize) ->
 }
 
 // The total of the pair of symbols i and j, which stands at index k: crosswise as of a symbol, plus the products that meet in the pair.
-pub fn pair_total<'a, 'b>(
-    c: i64,
-    a: &'a [i64; SYMBOLS],
-    p: &'a [i64; PAIRS],
-    d: i64,
-    b: &'b [i64; SYMBOLS],
-    q: &'b [i64; PAIRS],
-    i: usize,
-    j: usize,
-    k: usize,
-) -> i64
+pub fn pair_total(x: &Row, y: &Row, i: usize, j: usize, k: usize) -> i64
     requires k_lt_pairs { (k < pairs) × (first_of k ≡ i) × (second_of k ≡ j) }
-    requires p_bound { (span (row_of_parts c a.now p.now) ≤ span_limit) × (span (row_of_parts d b.now q.now) ≤ span_limit) }
-    ensures { result ≡ pair_total (row_of_parts c a.now p.now) (row_of_parts d b.now q.now) k }
+    requires within { (span x.now ≤ span_limit) × (span y.now ≤ span_limit) }
+    ensures { result ≡ pair_total x.now y.now k }
 {
-    let pk = p[k];
-    let qk = q[k];
-    crosswise_total(c, qk, d, pk) + meeting_at(a, b, i, j)
+    crosswise_total(x.centre, y.pair[k], y.centre, x.pair[k])
+        + meeting_at(&x.linear, &y.linear, i, j)
 }
 
-// Puts the quotients of the pairs whose second symbol is j, and adds up the absolute remainders: those of the first j symbols become those of one more.
-fn put_column<'a, 'b>(
-    out: &mut [i64],
-    remainders: u64,
-    c: i64,
-    a: &'a [i64; SYMBOLS],
-    p: &'a [i64; PAIRS],
-    d: i64,
-    b: &'b [i64; SYMBOLS],
-    q: &'b [i64; PAIRS],
-    j: usize,
-) -> u64
-    requires j_lt_paired { (j < paired) × (span (row_of_parts c a.now p.now) ≤ span_limit) × (span (row_of_parts d b.now q.now) ≤ span_limit) }
-    requires out_value { out.old ≡ map product_rounding.quotient (pair_totals j (row_of_parts c a.now p.now) (row_of_parts d b.now q.now)) }
-    requires remainders_value { remainders ≡ sum_abs (map product_rounding.remainder (pair_totals j (row_of_parts c a.now p.now) (row_of_parts d b.now q.now))) }
-    ensures quotients { out.new ≡ map product_rounding.quotient (pair_totals (suc j) (row_of_parts c a.now p.now) (row_of_parts d b.now q.now)) }
-    ensures remainders { result ≡ sum_abs (map product_rounding.remainder (pair_totals (suc j) (row_of_parts c a.now p.now) (row_of_parts d b.now q.now))) }
+// The totals of two rows, of which neither has a coefficient from the own symbol on.
+#[inline]
+pub fn totals(x: &Row, y: &Row, symbols: Symbols) -> Row
+    requires none { NoneFrom symbols.own x.now.linear × NoneFrom symbols.own y.now.linear }
+    requires within { (span x.now ≤ span_limit) × (span y.now ≤ span_limit) }
+    ensures { result ≡ totals symbols.squares x.now y.now }
 {
-    let mut sum = remainders;
-    let mut i: usize = 0;
-    let mut k = j;
-    while i <= j {
-        let t = pair_total(c, a, p, d, b, q, i, j, k);
-        sum += put_quotient(&mut *out, k, t);
-        k += PAIRED - 1 - i;
-        i += 1;
+    Row {
+        centre: x.centre * y.centre,
+        linear: front(symbols.own, |i| linear_total(x, y, i)),
+        pair: pairs_in_use(symbols.squares, |i, j, k| pair_total(x, y, i, j, k)),
     }
-    sum
 }
 
-// Puts the quotients of the totals of all pairs in use into zeros, and answers the sum of the absolute remainders.
-fn put_pairs<'a, 'b>(
-    out: &mut [i64],
-    c: i64,
-    a: &'a [i64; SYMBOLS],
-    p: &'a [i64; PAIRS],
-    d: i64,
-    b: &'b [i64; SYMBOLS],
-    q: &'b [i64; PAIRS],
-    squares: usize,
-) -> u64
-    requires squares_le_paired { (squares ≤ paired) × (out.old ≡ replicate pairs (pos 0)) }
-    requires p_bound { (span (row_of_parts c a.now p.now) ≤ span_limit) × (span (row_of_parts d b.now q.now) ≤ span_limit) }
-    ensures quotients { out.new ≡ map product_rounding.quotient (pair_totals squares (row_of_parts c a.now p.now) (row_of_parts d b.now q.now)) }
-    ensures remainders { result ≡ sum_abs (map product_rounding.remainder (pair_totals squares (row_of_parts c a.now p.now) (row_of_parts d b.now q.now))) }
+// The quotient of a total, and the absolute remainder that it leaves.
+#[derive(Clone, Copy)]
+struct Divided {
+    quotient: i64,
+    remainder: u64,
+}
+
+fn divide_total(t: i64) -> Divided
+    ensures quotient { result.quotient ≡ product_rounding.quotient t }
+    ensures remainder { result.remainder ≡ nat_abs (product_rounding.remainder t) }
+{
+    Divided {
+        quotient: nearest_quotient_4096(t),
+        remainder: nearest_remainder_4096(t),
+    }
+}
+
+// Divides totals where they stand, and answers the sum of the absolute remainders.
+#[inline]
+fn divide(totals: &mut [i64]) -> u64
+    requires { length totals.old ≤ symbols }
+    ensures quotients { totals.new ≡ map product_rounding.quotient totals.old }
+    ensures remainders { result ≡ sum_abs (map product_rounding.remainder totals.old) }
 {
     let mut remainders: u64 = 0;
-    let mut j: usize = 0;
-    while j < squares {
-        remainders = put_column(&mut *out, remainders, c, a, p, d, b, q, j);
-        j += 1;
+    // an index: of what an iterator writes through a slice no proof knows the values
+    for i in 0..totals.len() {
+        let d = divide_total(totals[i]);
+        totals[i] = d.quotient;
+        remainders += d.remainder;
     }
     remainders
+}
+
+// Divides all totals of two rows.
+#[inline]
+fn divide_row(totals: &mut Row) -> u64
+    ensures quotients { totals.new ≡ map_row product_rounding.quotient totals.old }
+    ensures remainders { result ≡ span (map_row product_rounding.remainder totals.old) }
+{
+    let centre = divide_total(totals.centre);
+    totals.centre = centre.quotient;
+    centre.remainder + divide(&mut totals.linear) + divide(&mut totals.pair)
 }
 
 // The radii multiplied, less the same of the first "squares" symbols alone.
@@ -197,29 +141,19 @@ pub fn dropped_part<'a, 'b>(
     a_radius * b_radius - kept
 }
 
-// The product of two rows under a count of squares, in the row that owns the symbol at index own. Each total is formed from the two rows as they
-// are, divided at once and put into the new row.
-pub fn multiply(x: Row, x_radius: u64, y: Row, y_radius: u64, squares: usize, own: usize) -> Answer
-    requires squares_le_paired { (squares ≤ paired) × (own < symbols) × (span x ≤ span_limit) × (span y ≤ span_limit) }
-    requires x_radius_value { (x_radius ≡ radius x) × (y_radius ≡ radius y) × NoneFrom own x.linear × NoneFrom own y.linear }
-    ensures { result ≡ product squares own x y }
+// The product of two rows. Each total is formed from the two rows as they are, in the new row, and divided there.
+pub fn multiply(x: Operand, y: Operand, symbols: Symbols) -> Result<Made, NoRow>
+    requires { NoneFrom symbols.own x.row.linear × NoneFrom symbols.own y.row.linear }
+    ensures { answer_of result ≡ product symbols.squares symbols.own x.row y.row }
 {
-    let c = x.centre;
-    let d = y.centre;
-    let t = c * d;
-    let mut linear = [0i64; SYMBOLS];
-    let mut pair = [0i64; PAIRS];
-    let remainders = integer::division::nearest_remainder_4096(t)
-        + put_linear(&mut linear, c, &x.linear, d, &y.linear, own)
-        + put_pairs(
-            &mut pair, c, &x.linear, &x.pair, d, &y.linear, &y.pair, squares,
-        );
-    let error = dropped_part(&x.linear, x_radius, &y.linear, y_radius, squares) + remainders;
-    linear[own] = integer::division::ceiling_quotient(error, UNIT) as i64;
-    let row = Row {
-        centre: integer::division::nearest_quotient_4096(t),
-        linear,
-        pair,
-    };
-    crate::steps::check(row)
+    let mut row = totals(&x.row, &y.row, symbols);
+    let dropped = dropped_part(
+        &x.row.linear,
+        x.radius,
+        &y.row.linear,
+        y.radius,
+        symbols.squares,
+    );
+    let error = dropped + divide_row(&mut row);
+    check_with_own(row, symbols.own, ceiling_quotient(error, UNIT))
 }

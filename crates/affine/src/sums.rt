@@ -2,7 +2,7 @@
 ghost use Rattle.std.specs.Prelude.{◌≡◌, suc, ◌+◌, ◌^◌, ◌≤◌, ◌<◌, nat_abs, length};
 ghost use Rattle.integer.specs.Sum.{sum_abs};
 ghost use Rattle.affine.specs.Limits.{span_limit};
-ghost use Rattle.affine.specs.Row.{within_span, agree};
+ghost use Rattle.affine.specs.Row.{span, within_span, agree};
 ghost use Rattle.affine.specs.Capped.{capped};
 
 use crate::Row;
@@ -14,14 +14,19 @@ pub fn absolutes(a: &[i64]) -> u64
     ensures { result ≡ sum_abs a.now }
 {
     let mut sum: u64 = 0;
-    let mut i: usize = 0;
-    while i < a.len() {
-        let v = a[i];
-        let m = integer::magnitude::absolute(v);
-        sum += m;
-        i += 1;
+    for v in a {
+        sum += v.unsigned_abs();
     }
     sum
+}
+
+// The span of a row, where it does not wrap.
+#[inline]
+pub fn span(r: &Row) -> u64
+    requires { span r.now < 2 ^ 64 }
+    ensures { result ≡ span r.now }
+{
+    r.centre.unsigned_abs() + absolutes(&r.linear) + absolutes(&r.pair)
 }
 
 // A sum that stops one above the span limit, so that no row makes it wrap.
@@ -29,8 +34,7 @@ fn capped_sum(sum: u64, v: i64) -> u64
     requires { sum ≤ suc span_limit }
     ensures { result ≡ capped (sum + nat_abs v) }
 {
-    let s = sum + integer::magnitude::absolute(v);
-    if s <= SPAN_LIMIT { s } else { SPAN_LIMIT + 1 }
+    (sum + v.unsigned_abs()).min(SPAN_LIMIT + 1)
 }
 
 // A sum so stopped, with the absolute values of so many numbers more.
@@ -39,11 +43,8 @@ fn capped_absolutes(start: u64, a: &[i64]) -> u64
     ensures { result ≡ capped (start + sum_abs a.now) }
 {
     let mut sum = start;
-    let mut i: usize = 0;
-    while i < a.len() {
-        let v = a[i];
-        sum = capped_sum(sum, v);
-        i += 1;
+    for v in a {
+        sum = capped_sum(sum, *v);
     }
     sum
 }
@@ -52,11 +53,8 @@ fn capped_absolutes(start: u64, a: &[i64]) -> u64
 pub fn within_span(r: Row) -> bool
     ensures { result ≡ within_span r }
 {
-    let c = r.centre;
-    let s = capped_sum(0, c);
-    let t = capped_absolutes(s, &r.linear);
-    let u = capped_absolutes(t, &r.pair);
-    u <= SPAN_LIMIT
+    let sum = capped_absolutes(capped_sum(0, r.centre), &r.linear);
+    capped_absolutes(sum, &r.pair) <= SPAN_LIMIT
 }
 
 // Whether two lists of numbers, of one length, agree: two rows by their numbers, or parts of them.
@@ -64,14 +62,11 @@ pub fn same_numbers<'a, 'b>(a: &'a [i64], b: &'b [i64]) -> bool
     requires { length a.now ≡ length b.now }
     ensures { result ≡ agree a.now b.now }
 {
-    let mut i: usize = 0;
-    while i < a.len() {
-        let v = a[i];
-        let w = b[i];
-        if v != w {
+    // by the index: what `==` of slices answers is told of another list than `agree` goes by
+    for i in 0..a.len() {
+        if a[i] != b[i] {
             return false;
         }
-        i += 1;
     }
     true
 }

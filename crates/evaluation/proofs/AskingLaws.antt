@@ -14,7 +14,10 @@ use Rattle.affine.specs.Limits.{symbols, span_limit}
 use Rattle.affine.specs.Lists.{pick}
 use Rattle.affine.specs.Row.{span, within_span}
 use Rattle.affine.proofs.Lists.{pick_elim}
-use Rattle.sheet.specs.declared.Refusal.{Refusal}
+use Rattle.sheet.specs.declared.causes.Refused.{Refused}
+use Rattle.sheet.specs.Answers.{Refusal}
+use Rattle.sheet.specs.Results.{refusal_of}
+use Rattle.sheet.proofs.Results.{number_some}
 use Rattle.sheet.specs.Causes.{refusal, accepted}
 use Rattle.evaluation.specs.Table.{row_width, range_width, row_part, row_at, range_at, RowsWithin, RangesOrdered}
 use Rattle.evaluation.specs.Work.{table_too_short}
@@ -37,6 +40,13 @@ refused_answer q told beside {r} e h = subst (λ (q : Refusal). beside r ≡ pic
 
 pub told_answer : {A : Type 0} (q : Refusal) (told refused : A) {r : Refusal} → r ≡ q → r.number ≡ 0 → told ≡ pick (eqb q.number 0) told refused
 told_answer q told refused e h = simp (eq-eqb q.number 0 (number_of e h))
+
+-- one test and then another: the first stops, or is passed
+pub stops : (r : Refused) {q : Refusal} (s : Refusal) → refusal_of r ≡ q → refusal_of r ≡ or_else q s
+stops r {q} s e = refused_answer q s (λ t. t) e (number_some r.cause)
+
+pub goes_on : {q : Refusal} (s : Refusal) → accepted ≡ q → s ≡ or_else q s
+goes_on {q} s e = told_answer q s q e refl
 
 -- accepted after both
 record Both (r s t : Refusal) : Type 0 where

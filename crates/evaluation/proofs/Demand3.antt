@@ -25,8 +25,8 @@ use Rattle.evaluation.specs.Table.{table_after, ranges_after, row_of_numbers, ra
 use Rattle.evaluation.specs.Work.{row_count, evaluated}
 use Rattle.evaluation.specs.Ranges.{row_of, answered_ranges}
 use Rattle.evaluation.specs.Asking.{range_refusal, rows_refusal, range_told, range_refused, range_of, compared, not_compared, same_of}
-use Rattle.evaluation.specs.declared.RangeAnswer.{RangeAnswer}
-use Rattle.evaluation.specs.declared.SameAnswer.{SameAnswer}
+use Rattle.evaluation.specs.Answers.{RangeAnswer}
+use Rattle.evaluation.specs.Answers.{SameAnswer}
 use Rattle.evaluation.specs.Values.{in_units, Within, FromMinusOneToOne, exact_value, own_of, symbols_of, found_values, found_value}
 use Rattle.evaluation.specs.Demand3.{InputsWithin, StillHolds, RangeStillHolds, Demand3, Demand3Holds}
 use Rattle.evaluation.proofs.Induction.{AtFound}

@@ -8,7 +8,7 @@ use lib.Dec.{ltb}
 use lib.IntN.{pos}
 use lib.ListN.{length}
 use Rattle.affine.specs.declared.Row.{Row}
-use Rattle.affine.specs.declared.Answer.{Answer}
+use Rattle.affine.specs.Answer.{Answer}
 use Rattle.affine.specs.declared.Range.{Range}
 use Rattle.affine.specs.Row.{form_range}
 use Rattle.affine.specs.Steps.{constant_row, input_row, checked_with, ends_range}

@@ -10,7 +10,7 @@ use lib.ListN.{length}
 use Rattle.integer.specs.Fraction.{Fraction, ◌+ℚ◌, ◌-ℚ◌, ◌*ℚ◌, reciprocal as reciprocal_of}
 use Rattle.affine.specs.declared.Row.{Row}
 use Rattle.affine.specs.declared.Range.{Range}
-use Rattle.affine.specs.declared.Status.TheVariants.{Accepted}
+use Rattle.affine.specs.Answer.{Accepted}
 use Rattle.affine.specs.Row.{form_range}
 use Rattle.affine.specs.Steps.{constant_row, input_row, ends_range, add_rows, subtract_rows, checked}
 use Rattle.affine.specs.Product.{product, product_row}

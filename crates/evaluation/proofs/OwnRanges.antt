@@ -13,7 +13,7 @@ use lib.Seq.{ext_get_or, get_or_at}
 use lib.Signed.{◌≤ℤ◌}
 use Rattle.affine.specs.declared.Row.{Row}
 use Rattle.affine.specs.declared.Range.{Range}
-use Rattle.affine.specs.declared.Status.TheVariants.{Accepted}
+use Rattle.affine.specs.Answer.{Accepted}
 use Rattle.affine.specs.Limits.{span_limit}
 use Rattle.affine.specs.Row.{form_range}
 use Rattle.affine.specs.Steps.{constant_row, input_row, ends_range}

@@ -7,9 +7,9 @@ use lib.Dec.{eqb}
 use lib.IntN.{ℤ}
 use lib.ListN.{length, length-append}
 use Rattle.affine.specs.declared.Row.{Row}
-use Rattle.affine.specs.declared.Answer.{Answer}
-use Rattle.affine.specs.declared.Status.{Status}
-use Rattle.affine.specs.declared.Status.TheVariants.{Accepted, SpanPassed, ZeroInRange, NoRoot}
+use Rattle.affine.specs.Answer.{Answer}
+use Rattle.affine.specs.Answer.{Status}
+use Rattle.affine.specs.Answer.{Accepted, SpanPassed, ZeroInRange, NoRoot}
 use Rattle.affine.specs.Steps.{number}
 use Rattle.affine.proofs.Lists.{pick_elim}
 use Rattle.sheet.specs.declared.Schedule.{Schedule}

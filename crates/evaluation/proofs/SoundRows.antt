@@ -10,9 +10,9 @@ use lib.IntN.{ℤ, pos, ◌+ℤ◌, ◌-ℤ◌}
 use lib.ListN.{length}
 use Rattle.affine.specs.declared.Row.{Row}
 use Rattle.affine.specs.declared.Range.{Range}
-use Rattle.affine.specs.declared.Answer.{Answer}
-use Rattle.affine.specs.declared.Status.{Status}
-use Rattle.affine.specs.declared.Status.TheVariants.{SpanPassed, ZeroInRange, NoRoot}
+use Rattle.affine.specs.Answer.{Answer}
+use Rattle.affine.specs.Answer.{Status}
+use Rattle.affine.specs.Answer.{SpanPassed, ZeroInRange, NoRoot}
 use Rattle.affine.specs.Limits.{span_limit}
 use Rattle.affine.specs.Lists.{pick, tabulate, sum}
 use Rattle.affine.specs.PairOrder.{over_pairs, firsts, seconds}

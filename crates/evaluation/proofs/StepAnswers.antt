@@ -9,7 +9,7 @@ use lib.IntN.{ℤ, pos}
 use lib.ListN.{length, get_or}
 use Rattle.affine.specs.declared.Row.{Row}
 use Rattle.affine.specs.declared.Range.{Range}
-use Rattle.affine.specs.declared.Answer.{Answer}
+use Rattle.affine.specs.Answer.{Answer}
 use Rattle.affine.specs.Limits.{span_limit}
 use Rattle.affine.specs.Lists.{at}
 use Rattle.affine.specs.Row.{span, radius, NoneFrom}
@@ -20,7 +20,8 @@ use Rattle.sheet.specs.declared.Step.{Step}
 use Rattle.sheet.specs.declared.Schedule.{Schedule}
 use Rattle.sheet.specs.Lines.{natural, ends_at, step_at}
 use Rattle.sheet.specs.Limits.{last_binary}
-use Rattle.sheet.proofs.Passing.{Natural}
+use Rattle.sheet.proofs.Passing.{Natural, StepPassed}
+use Rattle.evaluation.specs.Operation.{index_of, Binary, Unary, Nullary}
 use Rattle.evaluation.specs.Table.{row_at, range_at, rows_in, ranges_in, RowsWithin, Operands, RangesOf}
 use Rattle.evaluation.specs.Ranges.{named_range, operand_ranges}
 use Rattle.evaluation.specs.Work.{named_row, binary_answer, unary_answer, step_answer, row_answer}
@@ -61,41 +62,60 @@ read_centred {table} {ranges} {n} {k} of earlier {x} {range} row_read range_read
     subst (λ r. Centred range r) (sym row_read) (subst (λ r. Centred r (row_at table k)) (sym range_read) (of.centred k earlier))
 
 -- the row at the index that a field names, and its range
-module _ {n k : ℕ} {z : ℤ} (named : Natural 1 n z) (index : k ≡ natural z) where
-  pub named_earlier : k - 1 < n
+module _ {n k : ℕ} {z : ℤ} (named : Natural 1 n z) (index : k ≡ index_of z) where
+  named_earlier : k < n
   named_earlier = omega (arith, named.from, named.to)
 
-  pub named_is : (table : List ℤ) → row_at table (k - 1) ≡ named_row (rows_in table n) z
-  named_is table = ap (λ m. row_at table (m - 1)) index ∙ sym (named_row_rows_in table n z named)
+  named_is : (table : List ℤ) {x : Row} → x ≡ row_at table k → x ≡ named_row (rows_in table n) z
+  named_is table read = read ∙ ap (row_at table) index ∙ sym (named_row_rows_in table n z named)
 
-  pub named_range_is : (ranges : List ℤ) → range_at ranges (k - 1) ≡ named_range (ranges_in ranges n) z
-  named_range_is ranges = ap (λ m. range_at ranges (m - 1)) index ∙ sym (named_range_ranges_in ranges n z named)
+  named_range_is : (ranges : List ℤ) {r : Range} → r ≡ range_at ranges k → r ≡ named_range (ranges_in ranges n) z
+  named_range_is ranges read = read ∙ ap (range_at ranges) index ∙ sym (named_range_ranges_in ranges n z named)
 
--- the answer, by the code
-module _ (squares : ℕ) (table ranges : List ℤ) (n : ℕ) (t : Step) where
-  pub constant_step : {a : Answer} → natural t.code ≡ 1 → a ≡ checked (constant_row t.value) → a ≡ step_answer squares (rows_in table n) (ranges_in ranges n) t
-  unfolding step_answer
-  constant_step e q = q ∙ rw e
+-- the answer of a step that passed where n rows are earlier, by its operation
+module _ {n : ℕ} {t : Step} (passed : StepPassed n t.code t.first t.second t.value) where
+  module _ {code i j : ℕ} (does : Binary code i j t) (from : 2 ≤ code) (to : code ≤ last_binary) where
+    first_named : Natural 1 n t.first
+    first_named = passed.first_row (omega (arith, does.by_code, from))
 
-  pub unary_step : {a : Answer} {x : Row} {range : Range} → last_binary < natural t.code → x ≡ named_row (rows_in table n) t.first
-      → range ≡ named_range (ranges_in ranges n) t.first → a ≡ unary_answer squares n t.code x range
-      → a ≡ step_answer squares (rows_in table n) (ranges_in ranges n) t
-  unfolding step_answer
-  unary_step {a} {x} {range} unary named told q =
-      q
-      ∙ ap (λ m. unary_answer squares m t.code x range) (sym (length_rows_in table n))
-      ∙ ap₂ (unary_answer squares (length (rows_in table n)) t.code) named told
-      ∙ rw (ne_eqb (natural t.code) 1 (λ e. omega arith), lt-leb (natural t.code) last_binary unary)
+    second_named : Natural 1 n t.second
+    second_named = passed.second_row (omega (arith, does.by_code, from)) (omega (arith, does.by_code, to))
 
-  pub binary_step : {a : Answer} {x y : Row} → (natural t.code ≡ 1 → ⊥) → natural t.code ≤ last_binary
-      → x ≡ named_row (rows_in table n) t.first → y ≡ named_row (rows_in table n) t.second → a ≡ binary_answer squares n t.code x y
-      → a ≡ step_answer squares (rows_in table n) (ranges_in ranges n) t
-  unfolding step_answer
-  binary_step {a} {x} {y} not_constant binary first second q =
-      q
-      ∙ ap (λ m. binary_answer squares m t.code x y) (sym (length_rows_in table n))
-      ∙ ap₂ (binary_answer squares (length (rows_in table n)) t.code) first second
-      ∙ rw (ne_eqb _ 1 not_constant, le-leb (natural t.code) last_binary binary)
+    pub first_earlier : i < n
+    first_earlier = named_earlier first_named does.first_is
+
+    pub second_earlier : j < n
+    second_earlier = named_earlier second_named does.second_is
+
+    pub two_rows : (squares : ℕ) (table ranges : List ℤ) {a : Answer} {x y : Row} → x ≡ row_at table i → y ≡ row_at table j
+        → a ≡ binary_answer squares n t.code x y → a ≡ step_answer squares (rows_in table n) (ranges_in ranges n) t
+    unfolding step_answer
+    two_rows squares table ranges {a} {x} {y} first second q =
+        q
+        ∙ ap (λ m. binary_answer squares m t.code x y) (sym (length_rows_in table n))
+        ∙ ap₂ (binary_answer squares (length (rows_in table n)) t.code) (named_is first_named does.first_is table first) (named_is second_named does.second_is table second)
+        ∙ rw (ne_eqb (natural t.code) 1 (λ e. omega (arith, does.by_code, from)), le-leb (natural t.code) last_binary (omega (arith, does.by_code, to)))
+
+  module _ {code i : ℕ} (does : Unary code i t) (from : last_binary < code) where
+    only_named : Natural 1 n t.first
+    only_named = passed.first_row (omega (arith, does.by_code, from))
+
+    pub only_earlier : i < n
+    only_earlier = named_earlier only_named does.first_is
+
+    pub one_row : (squares : ℕ) (table ranges : List ℤ) {a : Answer} {x : Row} {range : Range} → x ≡ row_at table i → range ≡ range_at ranges i
+        → a ≡ unary_answer squares n t.code x range → a ≡ step_answer squares (rows_in table n) (ranges_in ranges n) t
+    unfolding step_answer
+    one_row squares table ranges {a} {x} {range} read told q =
+        q
+        ∙ ap (λ m. unary_answer squares m t.code x range) (sym (length_rows_in table n))
+        ∙ ap₂ (unary_answer squares (length (rows_in table n)) t.code) (named_is only_named does.first_is table read) (named_range_is only_named does.first_is ranges told)
+        ∙ rw (ne_eqb (natural t.code) 1 (λ e. omega (arith, does.by_code, from)), lt-leb (natural t.code) last_binary (omega (arith, does.by_code, from)))
+
+pub no_row : {v : ℤ} {t : Step} → Nullary v t → (squares n : ℕ) (table ranges : List ℤ) {a : Answer} → a ≡ checked (constant_row v)
+    → a ≡ step_answer squares (rows_in table n) (ranges_in ranges n) t
+unfolding step_answer
+no_row does squares n table ranges q = q ∙ ap (λ v. checked (constant_row v)) does.value_is ∙ rw does.by_code
 
 -- the answer, by the row's line
 module _ (c : Schedule) (table ranges : List ℤ) (n : ℕ) where

@@ -13,9 +13,9 @@ use lib.Dec.{eqb}
 use lib.ListN.{length}
 use Rattle.affine.specs.declared.Row.{Row}
 use Rattle.affine.specs.declared.Range.{Range}
-use Rattle.affine.specs.declared.Status.{Status}
-use Rattle.affine.specs.declared.Status.TheVariants.{Accepted, SpanPassed, ZeroInRange, NoRoot}
-use Rattle.affine.specs.declared.Answer.{Answer}
+use Rattle.affine.specs.Answer.{Status}
+use Rattle.affine.specs.Answer.{Accepted, SpanPassed, ZeroInRange, NoRoot}
+use Rattle.affine.specs.Answer.{Answer}
 use Rattle.affine.specs.Lists.{pick}
 use Rattle.affine.specs.Row.{within_span, form_range}
 use Rattle.affine.specs.Steps.{checked, number, refused}

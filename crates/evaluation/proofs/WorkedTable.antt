@@ -12,8 +12,8 @@ use lib.ListN.{length, get_or, set, length-set}
 use lib.Seq.{paste, ext_get_or, get_or-set_same, get_or-set_other}
 use Rattle.affine.specs.declared.Row.{Row}
 use Rattle.affine.specs.declared.Range.{Range}
-use Rattle.affine.specs.declared.Answer.{Answer}
-use Rattle.affine.specs.declared.Status.TheVariants.{Accepted}
+use Rattle.affine.specs.Answer.{Answer}
+use Rattle.affine.specs.Answer.{Accepted}
 use Rattle.affine.specs.Limits.{symbols, span_limit}
 use Rattle.affine.specs.Lists.{at, tabulate}
 use Rattle.affine.specs.Row.{numbers, span, radius}

@@ -6,10 +6,9 @@ use Rattle.affine.specs.declared.Range.{Range}
 use Rattle.affine.specs.Limits.{symbols}
 use Rattle.affine.specs.Lists.{pick}
 use Rattle.affine.specs.Row.{within_span, same}
-use Rattle.sheet.specs.declared.Refusal.{Refusal}
+use Rattle.sheet.specs.Answers.{Refusal}
 use Rattle.sheet.specs.Causes.{refusal, accepted}
-use Rattle.evaluation.specs.declared.RangeAnswer.{RangeAnswer}
-use Rattle.evaluation.specs.declared.SameAnswer.{SameAnswer}
+use Rattle.evaluation.specs.Answers.{RangeAnswer, SameAnswer}
 use Rattle.evaluation.specs.Table.{row_width, range_width, row_part, row_at, range_at}
 use Rattle.evaluation.specs.Work.{table_too_short}
 

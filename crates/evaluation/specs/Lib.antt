@@ -1,6 +1,8 @@
 pub mod Table
 pub mod Ranges
 pub mod Work
+pub mod Operation
+pub mod Answers
 pub mod Asking
 pub mod Values
 pub mod Demand3

@@ -3,7 +3,7 @@
 use Rattle.std.specs.Prelude.{Bool, false, List, [], ◌∷◌, ◌++◌, ℕ, zero, suc, ◌+◌, ◌-◌, ◌*◌, eqb, leb, ltb, ℤ, length}
 use Rattle.affine.specs.declared.Row.{Row}
 use Rattle.affine.specs.declared.Range.{Range}
-use Rattle.affine.specs.declared.Answer.{Answer}
+use Rattle.affine.specs.Answer.{Answer}
 use Rattle.affine.specs.Lists.{pick}
 use Rattle.affine.specs.Steps.{constant_row, add_rows, subtract_rows, checked, input_answer, number}
 use Rattle.affine.specs.Product.{product}
@@ -11,7 +11,7 @@ use Rattle.affine.specs.Reciprocal.{reciprocal}
 use Rattle.affine.specs.Root.{square_root}
 use Rattle.sheet.specs.declared.Step.{Step}
 use Rattle.sheet.specs.declared.Schedule.{Schedule}
-use Rattle.sheet.specs.declared.Refusal.{Refusal}
+use Rattle.sheet.specs.Answers.{Refusal}
 use Rattle.sheet.specs.Causes.{refusal, accepted}
 use Rattle.sheet.specs.Limits.{last_binary}
 use Rattle.sheet.specs.Lines.{natural, ends_at, step_at}

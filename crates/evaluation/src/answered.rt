@@ -6,6 +6,7 @@ ghost use Rattle.evaluation.specs.Table.{range_width, range_at, ranges_in, range
 ghost use Rattle.evaluation.specs.Work.{row_count, worked};
 ghost use Rattle.evaluation.specs.Ranges.{own_ranges, plain_step, answered_ranges, PlainOperands};
 
+use crate::operation::{Operation, operation_of};
 use crate::table::{get_range, put_range};
 use affine::Range;
 use sheet::{Schedule, Step};
@@ -15,31 +16,19 @@ fn plain_range(ranges: &[i64], t: Step) -> Range
     requires { PlainOperands ranges.now t }
     ensures { result ≡ plain_step t (range_at ranges.now (natural t.first - 1)) (range_at ranges.now (natural t.second - 1)) }
 {
-    let code = t.code;
-    if code == 1 {
-        let value = t.value;
-        return Range {
+    match operation_of(t) {
+        Operation::Constant(value) => Range {
             low: value,
             high: value,
-        };
+        },
+        Operation::Sum(i, j) => interval::sum(get_range(ranges, i), get_range(ranges, j)),
+        Operation::Difference(i, j) => {
+            interval::difference(get_range(ranges, i), get_range(ranges, j))
+        }
+        Operation::Product(i, j) => interval::product(get_range(ranges, i), get_range(ranges, j)),
+        Operation::Reciprocal(i) => interval::reciprocal(get_range(ranges, i)),
+        Operation::Root(i) => interval::root(get_range(ranges, i)),
     }
-    let first = t.first as usize;
-    let x = get_range(ranges, first - 1);
-    if code == 5 {
-        return interval::reciprocal(x);
-    }
-    if code == 6 {
-        return interval::root(x);
-    }
-    let second = t.second as usize;
-    let y = get_range(ranges, second - 1);
-    if code == 2 {
-        return interval::sum(x, y);
-    }
-    if code == 3 {
-        return interval::difference(x, y);
-    }
-    interval::product(x, y)
 }
 
 // Narrows the own ranges of so many rows, none of them refused, which the second table holds, to the answered ones. An input's plain range is its own.
@@ -49,16 +38,13 @@ pub fn narrow(c: Schedule, ranges: &mut [i64], rows: usize)
     ensures { ranges.new ≡ ranges_after (answered_ranges c (worked c rows).rows) ranges.old }
 {
     let inputs = c.inputs as usize;
-    let mut i: usize = 0;
-    while i < rows {
-        let own = get_range(&*ranges, i);
+    for i in 0..rows {
+        let own = get_range(ranges, i);
         let plain = if i < inputs {
             own
         } else {
-            let t = c.step[i - inputs];
-            plain_range(&*ranges, t)
+            plain_range(ranges, c.step[i - inputs])
         };
-        put_range(&mut *ranges, i, interval::overlap(own, plain));
-        i += 1;
+        put_range(ranges, i, interval::overlap(own, plain));
     }
 }

@@ -1,91 +1,32 @@
-// The row of a line of the sheet, made from the rows before it, which stand in a table, their ranges, which stand in the second, and their radii.
-ghost use Rattle.std.specs.Prelude.{◌≡◌, ◌<◌, ◌≤◌};
-ghost use Rattle.affine.specs.Limits.{symbols, paired};
+// The row of a step, made from the rows before it.
+ghost use Rattle.std.specs.Prelude.{◌≡◌};
+ghost use Rattle.affine.specs.Told.{answer_of};
 ghost use Rattle.sheet.proofs.Passing.{StepPassed};
-ghost use Rattle.evaluation.specs.Table.{row_at, range_at, rows_in, ranges_in, RowsWithin, RangesOf, Operands};
-ghost use Rattle.evaluation.specs.Work.{binary_answer, unary_answer, step_answer};
+ghost use Rattle.evaluation.specs.Table.{rows_in, ranges_in};
+ghost use Rattle.evaluation.specs.Work.{step_answer};
 
-use crate::table::{get_range, get_row};
-use affine::Answer;
-use sheet::{LAST_BINARY, Step};
+use crate::earlier::Earlier;
+use crate::operation::{Operation, operation_of};
+use affine::operands::Symbols;
+use affine::{Made, NoRow};
+use sheet::Step;
 
-// Codes 2 to 4: a sum, a difference or a product of two rows of the table. Each branch reads the rows itself: read once for all three they
-// are taken apart number by number and moved about.
-fn binary_answer(
-    table: &[i64],
-    radii: &[u64],
-    code: i64,
-    first: usize,
-    second: usize,
-    squares: usize,
-    own: usize,
-) -> Answer
-    requires squares_le_paired { (squares ≤ paired) × (own < symbols) × (first < own) × (second < own) }
-    requires rows_within { RowsWithin table.now own × Operands table.now radii.now own }
-    ensures { result ≡ binary_answer squares own code (row_at table.now first) (row_at table.now second) }
+// The new row owns the symbol behind those of the rows before it.
+pub fn step_row(earlier: &Earlier, step: Step, symbols: Symbols) -> Result<Made, NoRow>
+    requires next { symbols.own ≡ earlier.now.count }
+    requires step_passed { StepPassed symbols.own step.code step.first step.second step.value }
+    ensures { answer_of result ≡ step_answer symbols.squares (rows_in earlier.now.table.now symbols.own) (ranges_in earlier.now.ranges.now symbols.own) step }
 {
-    if code == 2 {
-        let x = get_row(table, first);
-        let y = get_row(table, second);
-        return affine::steps::add(x, y);
+    match operation_of(step) {
+        Operation::Constant(value) => affine::steps::constant(value),
+        Operation::Sum(i, j) => affine::steps::add(earlier.row(i), earlier.row(j)),
+        Operation::Difference(i, j) => affine::steps::subtract(earlier.row(i), earlier.row(j)),
+        Operation::Product(i, j) => {
+            affine::product::multiply(earlier.operand(i), earlier.operand(j), symbols)
+        }
+        Operation::Reciprocal(i) => {
+            affine::reciprocal::invert(earlier.operand(i), earlier.range(i), symbols)
+        }
+        Operation::Root(i) => affine::root::take_root(earlier.row(i), earlier.range(i), symbols),
     }
-    if code == 3 {
-        let x = get_row(table, first);
-        let y = get_row(table, second);
-        return affine::steps::subtract(x, y);
-    }
-    let x = get_row(table, first);
-    let y = get_row(table, second);
-    let x_radius = radii[first];
-    let y_radius = radii[second];
-    affine::product::multiply(x, x_radius, y, y_radius, squares, own)
-}
-
-// Codes 5 and 6: the reciprocal or the root of a row of the table, which has its range in the second.
-fn unary_answer(
-    table: &[i64],
-    ranges: &[i64],
-    radii: &[u64],
-    code: i64,
-    first: usize,
-    squares: usize,
-    own: usize,
-) -> Answer
-    requires squares_le_paired { (squares ≤ paired) × (own < symbols) × (first < own) }
-    requires rows_within { RowsWithin table.now own × RangesOf table.now ranges.now own × Operands table.now radii.now own }
-    ensures { result ≡ unary_answer squares own code (row_at table.now first) (range_at ranges.now first) }
-{
-    let range = get_range(ranges, first);
-    if code == 5 {
-        let x = get_row(table, first);
-        let x_radius = radii[first];
-        return affine::reciprocal::invert(x, x_radius, range, squares, own);
-    }
-    let x = get_row(table, first);
-    affine::root::take_root(x, range, squares, own)
-}
-
-// The row of a step that owns the symbol at index own.
-pub fn step_answer(
-    table: &[i64],
-    ranges: &[i64],
-    radii: &[u64],
-    t: Step,
-    squares: usize,
-    own: usize,
-) -> Answer
-    requires squares_le_paired { (squares ≤ paired) × (own < symbols) × StepPassed own t.code t.first t.second t.value }
-    requires rows_within { RowsWithin table.now own × RangesOf table.now ranges.now own × Operands table.now radii.now own }
-    ensures { result ≡ step_answer squares (rows_in table.now own) (ranges_in ranges.now own) t }
-{
-    let code = t.code;
-    if code == 1 {
-        return affine::steps::constant(t.value);
-    }
-    let first = t.first as usize;
-    if code > LAST_BINARY {
-        return unary_answer(table, ranges, radii, code, first - 1, squares, own);
-    }
-    let second = t.second as usize;
-    binary_answer(table, radii, code, first - 1, second - 1, squares, own)
 }

@@ -1,16 +1,20 @@
 -- What the program makes ready, by how the reading of the formula ended: the text fits, and it is that of the whole formula.
-use mathlib.Core.Path.{◌≡◌, sym, ap, ◌∙◌}
+use mathlib.Core.Path.{◌≡◌, refl, sym, ap, ◌∙◌}
 use mathlib.Core.List.{List}
 use Prim.Native.Nat.{ℕ, ◌≤◌, ◌<◌}
 use native.Mathlib.Nat.{zero-add}
 use native.Mathlib.Omega.{arith}
 use borrow.Author.Tests.{eq-eqb, ne_eqb}
 use lib.ListN.{length, take}
+use Rattle.std.specs.Prelude.{Result, Ok, Err}
+use Rattle.std.specs.Result.{result_unwrap_or}
 use Rattle.sheet.specs.Writing.{test_of, sheet_text, Written}
 use Rattle.sheet.specs.Wrote.{Wrote}
-use Rattle.sheet.specs.declared.ReadAnswer.{ReadAnswer}
+use Rattle.sheet.specs.Answers.{Refusal, ReadAnswer, WriteAnswer}
+use Rattle.sheet.specs.Results.{refusal_of, read_answer, write_answer}
 use Rattle.sheet.specs.declared.Schedule.{Schedule}
-use Rattle.sheet.specs.declared.WriteAnswer.{WriteAnswer}
+use Rattle.sheet.specs.declared.causes.Refused.{Refused}
+use Rattle.sheet.proofs.Results.{read_zero, read_some}
 use Rattle.sheet.proofs.SheetLength.{sheet_short}
 use Rattle.sheet.proofs.SheetWrite.{write_done}
 use Rattle.listing.specs.Listing.{refusal_text}
@@ -31,11 +35,10 @@ unfolding printed
 accepted_text b l e = rw (eq-eqb _ 0 e)
 
 -- the bytes that were taken say all of the formula
-whole_text : (b : InputBlock) (room : List ℕ) (n : ℕ) → 200 < length room → (formula : List ℕ) → take (length room) formula ≡ take n room
-    → printed b (take n room) ≡ printed b formula
+whole_text : (b : InputBlock) (room : ℕ) (taken : List ℕ) → 200 < room → (formula : List ℕ) → take room formula ≡ taken → printed b taken ≡ printed b formula
 unfolding printed
-whole_text b room n enough formula e =
-    let q : answer_of b (take n room) ≡ answer_of b formula = ap (answer_of b) (sym e) ∙ beginning_tells b formula (length room) enough in
+whole_text b room taken enough formula e =
+    let q : answer_of b taken ≡ answer_of b formula = ap (answer_of b) (sym e) ∙ beginning_tells b formula room enough in
     rw q
 
 -- a schedule that passes was written, whatever the room, if there is enough
@@ -48,26 +51,31 @@ wrote_sheet c before after w passes room h =
       is = h.leaves ∙ sym d.1;
     }
 
-module _ (b : InputBlock) (room : List ℕ) (n : ℕ) (before after : List ℕ) (enough : 200 < length room) (kept : length after ≡ length before)
+pub length_told : (answer : Result ℕ Refused) → result_unwrap_or answer 0 ≡ (write_answer answer).length
+length_told (Ok n) = refl
+length_told (Err r) = refl
+
+module _ (b : InputBlock) (room : ℕ) (taken : List ℕ) (before after : List ℕ) (enough : 200 < room) (kept : length after ≡ length before)
     (fits : text_room ≤ length before) where
   -- what was written is printed, if it is the text of the bytes that were taken
-  shown : (end : ℕ) (t : List ℕ) → printed b (take n room) ≡ t → length t ≤ text_room → Wrote before after 0 end t → Printed b room n before after end
+  shown : (end : ℕ) (t : List ℕ) → printed b taken ≡ t → length t ≤ text_room → Wrote before after 0 end t → Printed b room taken before after end
   shown end t e short w =
-      record { within = omega (arith, w.ends, short, kept, fits); prints = λ formula q. rw (sym (whole_text b room n enough formula q), e) w }
+      record { within = omega (arith, w.ends, short, kept, fits); prints = λ formula q. rw (sym (whole_text b room taken enough formula q), e) w }
 
-  pub refusal_shown : (a : ReadAnswer) (end : ℕ) → a ≡ answer_of b (take n room) → (a.refusal.number ≡ 0 → ⊥) → Wrote before after 0 end (refusal_text a.refusal)
-      → Printed b room n before after end
-  refusal_shown a end e refused w =
-      shown end (refusal_text a.refusal) (rw e (refused_text b (take n room) (rw e at refused))) (refusal_fits a.refusal) w
+  pub refusal_shown : (r : Refused) (end : ℕ) → read_answer (Err r) ≡ answer_of b taken → Wrote before after 0 end (refusal_text (refusal_of r))
+      → Printed b room taken before after end
+  refusal_shown r end e w =
+      let is : refusal_of r ≡ (answer_of b taken).refusal = ap (λ (a : ReadAnswer). a.refusal) e in
+      shown end (refusal_text (refusal_of r)) (refused_text b taken (read_some r e) ∙ ap refusal_text (sym is)) (refusal_fits (refusal_of r)) w
 
-  pub sheet_shown : (a : ReadAnswer) (w : WriteAnswer) → a ≡ answer_of b (take n room) → a.refusal.number ≡ 0 → Written a.schedule before after w
-      → Printed b room n before after w.length
-  sheet_shown a w e zero h =
-      let l = take n room in
-      let z : (answer_of b l).refusal.number ≡ 0 = rw e at zero in
-      let h' : Written (answer_of b l).schedule before after w = rw e at h in
-      let passes = number_passes b l z in
-      let short = sheet_short (answer_of b l).schedule passes in
-      let long : length (sheet_text (answer_of b l).schedule) ≤ text_room = omega (arith, short) in
-      shown w.length (sheet_text (answer_of b l).schedule) (accepted_text b l z) long
-      (wrote_sheet (answer_of b l).schedule before after w passes (omega (arith, long, fits)) h')
+  pub sheet_shown : (c : Schedule) (w : WriteAnswer) → read_answer (Ok c) ≡ answer_of b taken → Written c before after w
+      → Printed b room taken before after w.length
+  sheet_shown c w e h =
+      let d = read_zero c e in
+      let z : (answer_of b taken).refusal.number ≡ 0 = ap (λ (r : Refusal). r.number) d.0 in
+      let h' : Written (answer_of b taken).schedule before after w = rw d.1 h in
+      let passes = number_passes b taken z in
+      let short = sheet_short (answer_of b taken).schedule passes in
+      let long : length (sheet_text (answer_of b taken).schedule) ≤ text_room = omega (arith, short) in
+      shown w.length (sheet_text (answer_of b taken).schedule) (accepted_text b taken z) long
+      (wrote_sheet (answer_of b taken).schedule before after w passes (omega (arith, long, fits)) h')

@@ -12,8 +12,8 @@ unfoldable pub printed : InputBlock → List ℕ → List ℕ
 printed b formula =
     pick (eqb (answer_of b formula).refusal.number 0) (sheet_text (answer_of b formula).schedule) (refusal_text (answer_of b formula).refusal)
 
--- `n` bytes of `room` were taken, and whatever the formula is of which they are the beginning, all of it that there is room for: what is printed for
--- that formula, be it longer, stands at the start of the text, up to `end`, and every byte behind it is as it was.
-pub record Printed (b : InputBlock) (room : List ℕ) (n : ℕ) (before after : List ℕ) (end : ℕ) : Type 0 where
+-- `taken` was taken into room for so many bytes, and whatever the formula is of which it is the beginning, all of it that there is room for: what is
+-- printed for that formula, be it longer, stands at the start of the text, up to `end`, and every byte behind it is as it was.
+pub record Printed (b : InputBlock) (room : ℕ) (taken before after : List ℕ) (end : ℕ) : Type 0 where
   pub within : end ≤ length after
-  pub prints : (formula : List ℕ) → take (length room) formula ≡ take n room → Wrote before after 0 end (printed b formula)
+  pub prints : (formula : List ℕ) → take room formula ≡ taken → Wrote before after 0 end (printed b formula)

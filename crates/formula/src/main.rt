@@ -2,11 +2,11 @@
 // all bytes are ready before the first is written. A wrong call prints how to call it, on standard error.
 #![tactic(auto)]
 
-ghost use Rattle.std.specs.Prelude.{◌≤◌, length};
 ghost use Rattle.formula.specs.Printed.{Printed};
 
 use formulas::InputBlock;
-use sheet::{End, Field, MAX_INPUTS};
+use listing::TEXT_ROOM;
+use sheet::{End, MAX_INPUTS};
 use std::env::{Env, FillError};
 use std::io;
 
@@ -21,129 +21,67 @@ const SQUARES: usize = 2;
 
 const ENDS: usize = 3;
 
-// A word of the call.
-#[derive(Clone, Copy)]
-enum Word {
-    Number(i64),
-    Other,
-}
-
-// The inputs of the call: how many there are, or seven where there are more, and the ends of as many as there is room for. `whole` where every
-// word of them is a number and none is left over.
-#[derive(Clone, Copy)]
-struct Given {
-    whole: bool,
-    inputs: i64,
-    ends: [End; MAX_INPUTS],
-}
-
-// The argument at a position, as a number written as on a sheet.
-fn word_at(rt: &impl Env, i: usize) -> Word {
+// The argument at a position, where it is a number written as on a sheet.
+fn number_at(rt: &impl Env, i: usize) -> Option<i64> {
     let mut word = [0u8; WORD_ROOM];
-    let Ok(n) = rt.arg(i, &mut word) else {
-        return Word::Other;
-    };
-    if n >= WORD_ROOM {
-        return Word::Other;
+    let n = rt.arg(i, &mut word).ok()?;
+    if n == WORD_ROOM {
+        return None;
     }
     word[n] = b'\n';
-    let field = sheet::field_at(&word, 0, b'\n');
-    match field {
-        Field::Number { value, next } => if next == n + 1 {
-            Word::Number(value)
-        } else {
-            Word::Other
-        },
-        Field::Broken => Word::Other,
-    }
+    let number = sheet::field_at(&word, 0, b'\n')?;
+    (number.next == n + 1).then_some(number.value)
 }
 
-// A call whose inputs cannot be read.
-fn not_whole(ends: [End; MAX_INPUTS]) -> Given {
-    Given {
-        whole: false,
-        inputs: 0,
-        ends,
+// The inputs among so many arguments: how many there are, or seven where there are more, and the ends of as many as there is room for. None where a word
+// of them is no number, or is left over.
+fn inputs_given(rt: &impl Env, count: usize) -> Option<InputBlock> {
+    let squares = number_at(rt, SQUARES)?;
+    let words = count.saturating_sub(ENDS);
+    if words % 2 != 0 {
+        return None;
     }
-}
-
-// The count behind this one; seven stands for every larger one.
-fn one_more(i: usize) -> usize
-    ensures { result ≤ 7 }
-{
-    if i <= MAX_INPUTS {
-        i + 1
-    } else {
-        MAX_INPUTS + 1
-    }
-}
-
-// The inputs among so many arguments.
-fn inputs_given(rt: &impl Env, count: usize) -> Given {
     let mut ends = [End { low: 0, high: 0 }; MAX_INPUTS];
-    let mut i: usize = 0;
-    let mut at = ENDS;
-    while at < count {
-        if count - at < 2 {
-            return not_whole(ends);
-        }
-        let Word::Number(low) = word_at(rt, at) else {
-            return not_whole(ends);
-        };
-        let Word::Number(high) = word_at(rt, at + 1) else {
-            return not_whole(ends);
-        };
+    for i in 0..words / 2 {
+        let low = number_at(rt, ENDS + 2 * i)?;
+        let high = number_at(rt, ENDS + 2 * i + 1)?;
         if i < MAX_INPUTS {
             ends[i] = End { low, high };
         }
-        i = one_more(i);
-        at += 2;
     }
-    Given {
-        whole: true,
-        inputs: i as i64,
+    let inputs = (words / 2).min(MAX_INPUTS + 1) as i64;
+    Some(InputBlock {
+        inputs,
+        squares,
         ends,
-    }
+    })
 }
 
-// Fills the bytes with the formula, as far as there is room: how many bytes it has there. Of one that is too long the runtime leaves the first bytes
-// there.
-fn formula_given(rt: &impl Env, formula: &mut [u8; FORMULA_ROOM]) -> usize
-    ensures { result ≤ length formula.new }
-{
-    match rt.arg(FORMULA, &mut *formula) {
+// The formula, in the first of the lent bytes, as far as there is room. Of one that is too long the runtime leaves the first bytes there.
+fn formula_given<'a>(rt: &impl Env, room: &'a mut [u8; FORMULA_ROOM]) -> &'a [u8] {
+    let n = match rt.arg(FORMULA, &mut *room) {
         Ok(n) => n,
         Err(FillError::TooLong) => FORMULA_ROOM,
         Err(FillError::NotPresent) => 0,
+    };
+    &room[..n]
+}
+
+// Writes what is printed for a formula of which these bytes were taken: all of it that there is room for.
+fn put_text(block: InputBlock, taken: &[u8], text: &mut [u8; TEXT_ROOM]) -> usize
+    ensures { Printed block FORMULA_ROOM taken.now text.old text.new result }
+{
+    match formulas::read(block, taken) {
+        Ok(schedule) => sheet::write(schedule, text).unwrap_or(0),
+        Err(refused) => listing::put_refusal(text, refused),
     }
 }
 
-// Writes what is printed for a formula of which the first n bytes were taken: all of it that there is room for.
-fn put_text(
-    block: InputBlock,
-    room: &[u8; FORMULA_ROOM],
-    n: usize,
-    text: &mut [u8; listing::TEXT_ROOM],
-) -> usize
-    requires { n ≤ length room.now }
-    ensures { Printed block room.now n text.old text.new result }
-{
-    let bytes: &[u8] = room;
-    let answer = formulas::read(block, &bytes[..n]);
-    let refusal = answer.refusal;
-    if refusal.number != 0 {
-        return listing::put_refusal(&mut *text, refusal);
-    }
-    let schedule = answer.schedule;
-    let written = sheet::write(schedule, &mut *text);
-    written.length
-}
-
-fn print(rt: &(impl Print + Eprint), block: InputBlock, room: &[u8; FORMULA_ROOM], n: usize)
-    requires { n ≤ length room.now }
-{
-    let mut text = [0u8; listing::TEXT_ROOM];
-    let length = put_text(block, room, n, &mut text);
+fn print(rt: &(impl Env + Print + Eprint), block: InputBlock) {
+    let mut room = [0u8; FORMULA_ROOM];
+    let taken = formula_given(rt, &mut room);
+    let mut text = [0u8; TEXT_ROOM];
+    let length = put_text(block, taken, &mut text);
     if let Err(e) = streams::write_all(&mut io::writer(rt), &text[..length]) {
         streams::fail(rt, "formula: cannot write the sheet", e);
     }
@@ -156,49 +94,25 @@ fn print_call(rt: &impl Eprint) {
     );
 }
 
-// Prints what so many arguments ask for, and answers true, or answers false for a wrong call.
-fn answer(rt: &(impl Env + Print + Eprint), count: usize) -> bool {
-    let Word::Number(squares) = word_at(rt, SQUARES) else {
-        return false;
-    };
-    let given = inputs_given(rt, count);
-    if !given.whole {
-        return false;
-    }
-    let inputs = given.inputs;
-    let ends = given.ends;
-    let mut room = [0u8; FORMULA_ROOM];
-    let n = formula_given(rt, &mut room);
-    let block = InputBlock {
-        inputs,
-        squares,
-        ends,
-    };
-    print(rt, block, &room, n);
-    true
-}
-
 // Whether there is an argument at a position.
 fn has_argument(rt: &impl Env, i: usize) -> bool {
     let mut none = [0u8; 0];
-    match rt.arg(i, &mut none) {
-        Ok(_) => true,
-        Err(FillError::TooLong) => true,
-        Err(FillError::NotPresent) => false,
-    }
+    !matches!(rt.arg(i, &mut none), Err(FillError::NotPresent))
 }
 
 // How many arguments there are, the program's own name among them. A proved loop ends, and nothing says that they do: no run gets to the last count.
 fn argument_count(rt: &impl Env) -> usize {
-    let mut count: usize = 0;
-    while count < usize::MAX && has_argument(rt, count) {
-        count += 1;
+    for count in 0..usize::MAX {
+        if !has_argument(rt, count) {
+            return count;
+        }
     }
-    count
+    usize::MAX
 }
 
 fn main(rt: HostRuntime) {
-    if !answer(&rt, argument_count(&rt)) {
-        print_call(&rt);
+    match inputs_given(&rt, argument_count(&rt)) {
+        Some(block) => print(&rt, block),
+        None => print_call(&rt),
     }
 }

@@ -9,8 +9,7 @@ use lib.Dec.{eqb, ltb}
 use Rattle.sheet.specs.Limits.{max_steps}
 use Rattle.sheet.specs.Causes.{accepted}
 use Rattle.sheet.specs.Lines.{natural}
-use Rattle.sheet.specs.declared.Refusal.{Refusal}
-use Rattle.sheet.specs.declared.ReadAnswer.{ReadAnswer}
+use Rattle.sheet.specs.Answers.{Refusal, ReadAnswer}
 use Rattle.sheet.proofs.Choice.{pick_elim}
 use Rattle.formulas.specs.Grammar.{Tree}
 use Rattle.formulas.specs.Reading.{Outcome, no_formula, tree, formula_of}

@@ -5,21 +5,24 @@ use mathlib.Core.List.{List, [], ◌∷◌}
 use Prim.Native.Nat.{ℕ, suc, ◌+◌, ◌*◌, ◌≤◌, ◌<◌}
 use native.Mathlib.Numerals.{add-one}
 use native.Mathlib.Omega.{arith}
-use borrow.Author.Tests.{lt-ltb, le-ltb, ltb-false, ltb-true}
+use borrow.Author.Tests.{lt-ltb, le-ltb}
 use lib.Dec.{ltb}
 use lib.ListN.{length, drop, get_or, drop_of_length-le}
 use lib.Seq.{drop-cons, drop-drop}
+use Rattle.std.specs.Prelude.{Some, None}
 use Rattle.sheet.specs.Choice.{pick}
 use Rattle.sheet.specs.Limits.{end_limit}
 use Rattle.sheet.specs.Number.{digit_of}
+use Rattle.sheet.specs.Results.{as_digit}
 use Rattle.sheet.proofs.Choice.{pick_elim}
+use Rattle.sheet.proofs.Digits.{digit_some, digit_none}
 use Rattle.formulas.specs.Answer.{front_value, first_beyond}
 use Rattle.formulas.specs.Built.{capped, literal_of, digits_from}
 use Rattle.formulas.specs.declared.literals.Literal.{Literal}
 use Rattle.formulas.proofs.Numerals.{capped_digit}
 
 pub capped_small : (v : ℕ) → capped v ≤ end_limit + 1
-capped_small v = pick_elim (λ n. n ≤ end_limit + 1) (ltb end_limit v) _ _ (λ e. omega arith) (λ e. omega (arith, ltb-false end_limit v e))
+capped_small v = omega arith
 
 module _ (s : List ℕ) (i v : ℕ) where
   pub digits_more : i < length s → digit_of (get_or s i 0) < 10
@@ -30,6 +33,13 @@ module _ (s : List ℕ) (i v : ℕ) where
   pub digits_other : i < length s → 10 ≤ digit_of (get_or s i 0) → digits_from v i (drop i s) ≡ literal_of v i
   unfolding digits_from
   digits_other h d = rw (drop-cons s i 0) (simp (le-ltb _ _ d))
+
+  -- the same, of what `digit` answers of the byte
+  pub digits_some : (d : ℕ) → i < length s → Some d ≡ as_digit (digit_of (get_or s i 0)) → digits_from v i (drop i s) ≡ digits_from (capped (v * 10 + d)) (i + 1) (drop (i + 1) s)
+  digits_some d h e = let told = digit_some (get_or s i 0) d e in rw told.0 at (digits_more h (rw told.0 told.1))
+
+  pub digits_none : i < length s → None ≡ as_digit (digit_of (get_or s i 0)) → digits_from v i (drop i s) ≡ literal_of v i
+  digits_none h e = digits_other h (digit_none (get_or s i 0) e)
 
   pub digits_end : length s ≤ i → digits_from v i (drop i s) ≡ literal_of v i
   unfolding digits_from
@@ -65,10 +75,10 @@ digits_value v p (b ∷ bs) =
     go false ih = refl
 
 beyond_capped : (v : ℕ) → end_limit < capped v → end_limit < v
-beyond_capped v = pick_elim (λ n. end_limit < n → end_limit < v) (ltb end_limit v) _ _ (λ e h. ltb-true end_limit v e) (λ e h. h)
+beyond_capped v h = omega arith
 
 within_capped : (v : ℕ) → capped v ≤ end_limit → v ≤ end_limit
-within_capped v = pick_elim (λ n. n ≤ end_limit → v ≤ end_limit) (ltb end_limit v) _ _ (λ e h. absurd (omega arith)) (λ e h. ltb-false end_limit v e)
+within_capped v h = omega arith
 
 pub drop_next : (s : List ℕ) (p b : ℕ) (bs : List ℕ) → drop p s ≡ b ∷ bs → drop (suc p) s ≡ bs
 drop_next s p b bs e = rw (← add-one p, ← drop-drop 1 p s, e)

@@ -16,7 +16,7 @@ use Rattle.sheet.specs.Same.{up_to}
 use Rattle.sheet.specs.declared.End.{End}
 use Rattle.sheet.specs.declared.Step.{Step}
 use Rattle.sheet.specs.declared.Schedule.{Schedule}
-use Rattle.sheet.specs.declared.ReadAnswer.{ReadAnswer}
+use Rattle.sheet.specs.Answers.{ReadAnswer}
 use Rattle.formulas.specs.Reading.{letter_of, mark_of, token_of, reading, formula_of}
 use Rattle.formulas.specs.Steps.{step_of, step_count, steps_of, schedule_of}
 use Rattle.formulas.specs.Answer.{sheet_of, front_value, first_beyond, answered, refused, answer_of}

@@ -9,14 +9,16 @@ use lib.Dec.{eqb, ltb}
 use Rattle.sheet.specs.Limits.{max_inputs, max_steps}
 use Rattle.sheet.specs.Causes.{accepted}
 use Rattle.sheet.specs.Lines.{natural}
-use Rattle.sheet.specs.declared.Refusal.{Refusal}
-use Rattle.sheet.specs.declared.ReadAnswer.{ReadAnswer}
+use Rattle.sheet.specs.Answers.{Refusal, ReadAnswer}
 use Rattle.sheet.proofs.Choice.{pick_elim}
 use Rattle.sheet.proofs.Passed.{passed, test_accepted}
 use Rattle.formulas.specs.Reading.{Outcome, no_formula, tree, formula_of}
 use Rattle.formulas.specs.Steps.{step_count}
 use Rattle.formulas.specs.Answer.{sheet_of, inputs_test, first_beyond, text_answer, answer_of}
 use Rattle.formulas.specs.declared.InputBlock.{InputBlock}
+
+pub passes : (block : InputBlock) → (inputs_test block).number ≡ 0 → inputs_test block ≡ accepted
+passes block z = test_accepted (sheet_of block) z
 
 pub some_input : (block : InputBlock) → inputs_test block ≡ accepted → 0 < natural block.inputs
 unfolding sheet_of
@@ -34,7 +36,7 @@ pub inputs_accepted : (block : InputBlock) (s : List ℕ) → (answer_of block s
 unfolding answer_of
 inputs_accepted block s =
     pick_elim (λ (a : ReadAnswer). a.refusal ≡ accepted → inputs_test block ≡ accepted) (eqb (inputs_test block).number 0) _ _
-    (λ z _. test_accepted (sheet_of block) (eqb-true (inputs_test block).number 0 z))
+    (λ z _. passes block (eqb-true (inputs_test block).number 0 z))
     (λ _ e. e)
 
 -- an answer whose refusal has number 0 is accepted

@@ -17,7 +17,6 @@ pub mod SchedulePasses
 pub mod SameValue
 pub mod DigitRuns
 pub mod LiteralReads
-pub mod StepNumbers
 pub mod SignTurns
 pub mod OperandReads
 pub mod FrontReads

@@ -15,10 +15,11 @@ use Rattle.sheet.specs.Choice.{pick}
 use Rattle.sheet.specs.Limits.{end_limit}
 use Rattle.sheet.specs.Number.{digit_of}
 use Rattle.sheet.proofs.Choice.{pick_elim}
+use Rattle.std.specs.Prelude.{Option, Some, None}
 use Rattle.formulas.specs.Grammar.{literal}
 use Rattle.formulas.specs.Reading.{Open, wanting, counting, holding, next, reading, token_of}
 use Rattle.formulas.specs.Answer.{front_value}
-use Rattle.formulas.specs.Built.{capped, literal_of, digits_from, literal_at, beyond_with, found}
+use Rattle.formulas.specs.Built.{capped, literal_of, digits_from, literal_at, beyond_with, place_of, found}
 use Rattle.formulas.specs.declared.Token.TheVariants.{Digit}
 use Rattle.formulas.specs.declared.literals.Literal.{Literal}
 use Rattle.formulas.proofs.Positions.{first_byte, byte_inside, goes_on, literal_ends}
@@ -149,18 +150,14 @@ module _ (s : List ℕ) (inputs : ℕ) where
             (elim (dec_lt (at + 1) (length s)) [ yes l ↦ sym (digits_other s (at + 1) 0 l k) | no l ↦ sym (digits_end s (at + 1) 0 (omega arith)) ])
 
     -- what it does to the first literal beyond the limits
-    pub literal_seen : (b : ℕ) → 10 ≤ digit_of (get_or s (literal_at s at).next 0)
+    pub literal_seen : (b : Option ℕ) → 10 ≤ digit_of (get_or s (literal_at s at).next 0)
         → found s b at ≡ found s (beyond_with b (literal_at s at).value at) (literal_at s at).next
-    literal_seen b h = rw (all_digits h) (seen (ℕ_discrete b 0))
+    literal_seen (Some b) h = refl
+    literal_seen None h = rw (all_digits h) (none (dec_lt end_limit l.value))
       where
         l : Literal
         l = digits_from 0 at (drop at s)
 
-        -- none was found before
-        none : Dec (end_limit < l.value) → found s 0 at ≡ found s (beyond_with 0 l.value at) l.next
-        none (yes g) = rw (lt-ltb end_limit l.value g, ne_eqb (at + 1) 0 (omega arith), add-one at) (beyond_here s at inside d g)
-        none (no g) = let w : l.value ≤ end_limit = omega arith in rw (le-ltb end_limit l.value w) (beyond_behind s at inside d w)
-
-        seen : Dec (b ≡ 0) → found s b at ≡ found s (beyond_with b l.value at) l.next
-        seen (yes z) = rw z (none (dec_lt end_limit l.value))
-        seen (no n) = simp (ne_eqb b 0 n)
+        none : Dec (end_limit < l.value) → found s None at ≡ found s (beyond_with None l.value at) l.next
+        none (yes g) = let some = ne_eqb (suc at) 0 (omega arith) in rw (lt-ltb end_limit l.value g, add-one at) (ap place_of (beyond_here s at inside d g) ∙ rw some)
+        none (no g) = let w : l.value ≤ end_limit = omega arith in rw (le-ltb end_limit l.value w) (ap place_of (beyond_behind s at inside d w))

@@ -1,5 +1,5 @@
 -- What is told of a literal digit by digit: its value, and its value as far as it counts.
-use mathlib.Core.Path.{◌≡◌, refl, sym, ◌∙◌}
+use mathlib.Core.Path.{◌≡◌, refl, ◌∙◌}
 use mathlib.Core.Bool.{true}
 use mathlib.Core.List.{List, [], ◌∷◌, ◌++◌, append_assoc}
 use Prim.Native.Nat.{ℕ, suc, ◌+◌, ◌*◌, ◌≤◌, ◌<◌}
@@ -9,9 +9,7 @@ use native.Mathlib.Omega.{arith}
 use borrow.Author.Tests.{lt-ltb, le-ltb, ltb-true}
 use lib.Dec.{ltb}
 use lib.ListN.{length, get_or, length-append}
-use Rattle.sheet.specs.Limits.{end_limit}
 use Rattle.sheet.specs.Number.{digit_of}
-use Rattle.sheet.proofs.Choice.{pick_elim}
 use Rattle.formulas.specs.Grammar.{Numeral, one_digit, one_more}
 use Rattle.formulas.specs.Answer.{front_value}
 use Rattle.formulas.specs.Built.{capped}
@@ -51,12 +49,5 @@ front_value_lem {v} x rest h =
 
 -- ---- the capped value
 
-capped_beyond : (v : ℕ) → end_limit < v → capped v ≡ end_limit + 1
-capped_beyond v h = rw (lt-ltb end_limit v h)
-
 pub capped_digit : (v d : ℕ) → capped (capped v * 10 + d) ≡ capped (v * 10 + d)
-capped_digit v d =
-    pick_elim (λ (w : ℕ). capped (w * 10 + d) ≡ capped (v * 10 + d)) (ltb end_limit v) (end_limit + 1) v
-    (λ e. let h : end_limit < v = ltb-true end_limit v e in
-    capped_beyond ((end_limit + 1) * 10 + d) (omega arith) ∙ sym (capped_beyond (v * 10 + d) (omega arith)))
-    (λ e. refl)
+capped_digit v d = omega arith

@@ -3,29 +3,27 @@ use mathlib.Core.Path.{◌≡◌, refl, sym, ap, ◌∙◌, subst}
 use mathlib.Core.Logic.{◌≢◌}
 use mathlib.Core.Bool.{false}
 use mathlib.Core.List.{List, [], ◌∷◌}
-use Prim.Native.Nat.{ℕ, suc, ◌+◌, ◌*◌, ◌≤◌, ◌<◌}
+use Prim.Native.Nat.{ℕ, suc, ◌+◌, ◌≤◌, ◌<◌}
 use native.Mathlib.Nat.{add-zero}
 use native.Mathlib.Numerals.{add-one}
 use native.Mathlib.Omega.{arith}
-use borrow.Author.Tests.{lt-ltb, le-ltb, eqb-true}
-use lib.Dec.{eqb, lit≤}
-use lib.IntN.{ℤ}
+use borrow.Author.Tests.{lt-ltb, le-ltb}
+use lib.Dec.{lit≤}
 use lib.ListN.{length, drop, get_or, drop_of_length-le, get_or-eq_default}
 use lib.Seq.{sets}
-use Rattle.sheet.specs.Limits.{end_limit}
-use Rattle.sheet.specs.Lines.{step_numbers}
+use Rattle.std.specs.Prelude.{Option, Some, None}
 use Rattle.sheet.specs.Number.{digit_of}
-use Rattle.sheet.proofs.Choice.{pick_elim}
 use Rattle.formulas.specs.Limits.{max_nesting}
 use Rattle.formulas.specs.Grammar.{Tree, letter, literal, byte_of}
 use Rattle.formulas.specs.Reading.{Open, fresh, wanting, holding, broken, after_holding, next, no_formula, tree, reading, start, token_of}
 use Rattle.formulas.specs.Steps.{step_of, step_count, steps_of, LiteralsWithin}
 use Rattle.formulas.specs.Answer.{first_beyond}
-use Rattle.formulas.specs.Built.{sign_rank, all_numbers, found, Reaches, Right, Breaks, Small, Constant, part_of}
+use Rattle.formulas.specs.Built.{literal_at, place_of, found, sign_within, no_steps, Reaches, Right, Breaks, Constant}
 use Rattle.formulas.specs.declared.Sign.{Sign}
 use Rattle.formulas.specs.declared.Sign.TheVariants.{Plus, Minus, Times, Over}
 use Rattle.formulas.specs.declared.Token.{Token}
 use Rattle.formulas.specs.declared.Token.TheVariants.{Digit, Letter, Opening, Closing}
+use Rattle.formulas.specs.declared.steps.Steps.{Steps}
 use Rattle.formulas.specs.declared.builder.Part.{Part}
 use Rattle.formulas.proofs.ByteTokens.{token_closing, digit_of_lem, letter_no_digit, TokenByte, digit_byte, letter_byte, operator_byte, opening_byte, closing_byte, other_byte, token_byte}
 use Rattle.formulas.proofs.Positions.{token_at, goes_on, breaks_here, ends_here, wanting_breaks, holding_breaks}
@@ -53,14 +51,14 @@ pub letter_few : (inputs b i : ℕ) → token_of inputs b ≡ Letter i → i < i
 letter_few inputs b i e = letter_below (token_of_lem e)
 
 -- a sign has a rank of at most 2
-sign_ranked : (g : Sign) → sign_rank 2 (byte_of g) ≢ 0
-sign_ranked Plus = λ e. omega arith
-sign_ranked Minus = λ e. omega arith
-sign_ranked Times = λ e. omega arith
-sign_ranked Over = λ e. omega arith
+sign_ranked : (g : Sign) → sign_within 2 (byte_of g) ≢ None
+sign_ranked Plus = λ e. cc
+sign_ranked Minus = λ e. cc
+sign_ranked Times = λ e. cc
+sign_ranked Over = λ e. cc
 
 -- behind a sum in brackets: what neither goes on with it nor closes them
-not_closing : {inputs b : ℕ} {k : Token} (f : Tree → Tree) (around : List Open) (t : Tree) → TokenByte inputs b k → b ≢ 41 → sign_rank 2 b ≡ 0 → after_holding f around t k ≡ broken
+not_closing : {inputs b : ℕ} {k : Token} (f : Tree → Tree) (around : List Open) (t : Tree) → TokenByte inputs b k → b ≢ 41 → sign_within 2 b ≡ None → after_holding f around t k ≡ broken
 not_closing f around t (digit_byte h) n z = refl
 not_closing f around t (letter_byte h) n z = refl
 not_closing f around t (operator_byte g) n z = absurd (sign_ranked g z)
@@ -69,7 +67,7 @@ not_closing f around t closing_byte n z = absurd (n refl)
 not_closing f around t other_byte n z = refl
 
 -- behind a sum in no brackets: what does not go on with it
-pub not_going : {inputs b : ℕ} {k : Token} (f : Tree → Tree) (t : Tree) → TokenByte inputs b k → sign_rank 2 b ≡ 0 → after_holding f [] t k ≡ broken
+pub not_going : {inputs b : ℕ} {k : Token} (f : Tree → Tree) (t : Tree) → TokenByte inputs b k → sign_within 2 b ≡ None → after_holding f [] t k ≡ broken
 not_going f t (digit_byte h) z = refl
 not_going f t (letter_byte h) z = refl
 not_going f t (operator_byte g) z = absurd (sign_ranked g z)
@@ -77,7 +75,7 @@ not_going f t opening_byte z = refl
 not_going f t closing_byte z = refl
 not_going f t other_byte z = refl
 
-module _ (bytes : List ℕ) (inputs nesting at count beyond : ℕ) (before : List ℤ) (small : Small bytes inputs at count) where
+module _ (bytes : List ℕ) (inputs nesting at : ℕ) where
   -- ---- no operand
 
   abbrev pub Bad : Token → Type 0
@@ -88,10 +86,10 @@ module _ (bytes : List ℕ) (inputs nesting at count beyond : ℕ) (before : Lis
 
   -- ---- a letter
 
-  pub letter_right : (i : ℕ) → token_at bytes inputs at ≡ Letter i → at < length bytes
-      → Right bytes inputs 0 nesting at count beyond before before (part_of (at + 1) (i + 1) count beyond)
-  unfolding step_count steps_of all_numbers
-  letter_right i e h = record {
+  pub letter_right : (i : ℕ) → token_at bytes inputs at ≡ Letter i → at < length bytes → (before : Steps) → before.inputs ≡ inputs
+      → Right bytes inputs 0 nesting at before before (record { next = at + 1; row = i + 1 })
+  unfolding step_count steps_of
+  letter_right i e h before n = record {
     t = letter i;
     reaches = λ o around d. record {
       sum = o.sum;
@@ -100,9 +98,10 @@ module _ (bytes : List ℕ) (inputs nesting at count beyond : ℕ) (before : Lis
       reads = rw (add-one at) (goes_on bytes inputs at (wanting o around) (holding o.sum around (o.product (letter i))) h (ap (next (wanting o around)) e));
     };
     row = add-one i;
-    counted = sym (add-zero count);
+    same_inputs = n;
+    counted = sym (add-zero before.count);
     left = λ _. refl;
-    seen = λ _. found_behind bytes beyond at h (letter_byte_is (token_of_lem e));
+    seen = λ _. found_behind bytes before.beyond at h (letter_byte_is (token_of_lem e));
     longer = omega arith;
     within = omega arith;
     few_steps = omega arith;
@@ -111,24 +110,27 @@ module _ (bytes : List ℕ) (inputs nesting at count beyond : ℕ) (before : Lis
 
   -- ---- a literal
 
-  pub literal_right : (d : ℕ) → token_at bytes inputs at ≡ Digit d → (h : at < length bytes) (after : List ℤ) (p : Part) → Constant bytes at inputs count beyond before after p
-      → Right bytes inputs 0 nesting at count beyond before after p
-  unfolding step_count steps_of all_numbers LiteralsWithin
-  literal_right d e h after p c =
+  pub literal_right : (d : ℕ) → token_at bytes inputs at ≡ Digit d → at < length bytes → (before after : Steps) (p : Part) → before.inputs ≡ inputs
+      → Constant bytes at before after p → Right bytes inputs 0 nesting at before after p
+  unfolding step_count steps_of LiteralsWithin
+  literal_right d e h before after p i c =
       let g = digit_byte_is (token_of_lem e) in
       let r = literal_read bytes inputs at h g in
       let n = c.ends in
       record {
         t = literal r.v;
         reaches = λ o around _. record { sum = o.sum; product = o.product (literal r.v); ends = (refl, refl); reads = rw n (r.reads o around) };
-        row = omega (arith, c.row);
+        row = omega (arith, c.row, i);
+        same_inputs = c.same_inputs ∙ i;
         counted = c.counted;
-        left = λ w. c.left ∙ ap (λ (v : ℕ). sets before (4 * count) (step_numbers (step_of 1 0 0 v))) (r.is ∙ rw (le-ltb end_limit r.v w));
-        seen = λ z. rw (c.told, n) (literal_seen bytes inputs at h g beyond (rw n at z));
+        left = λ w.
+            let v : (literal_at bytes at).value ≡ r.v = omega (arith, r.is, w) in
+            c.left ∙ ap (λ (v : ℕ). sets before.step before.count (step_of 1 0 0 v ∷ [])) v;
+        seen = λ z. rw (c.told, n) (literal_seen bytes inputs at h g before.beyond (rw n at z));
         longer = omega (arith, n, r.longer);
         within = omega (arith, n, r.within);
         few_steps = omega (arith, n, r.longer, c.counted);
-        few_rows = omega (arith, c.row, c.counted);
+        few_rows = omega (arith, c.row, c.counted, i);
       }
 
 -- ---- brackets
@@ -137,7 +139,7 @@ module _ (bytes : List ℕ) (inputs nesting at count beyond : ℕ) (before : Lis
 pub none_left : (o : Open) (around : List Open) → length around + 0 ≡ max_nesting → next (wanting o around) Opening ≡ broken
 none_left o around d = rw (le-ltb (length around) max_nesting (omega arith))
 
-module _ (bytes : List ℕ) (inputs k at count beyond : ℕ) (e : token_at bytes inputs at ≡ Opening) (h : at < length bytes) where
+module _ (bytes : List ℕ) (inputs k at : ℕ) (e : token_at bytes inputs at ≡ Opening) (h : at < length bytes) where
   deeper : (o : Open) (around : List Open) → length around + suc k ≡ max_nesting → length (o ∷ around) + k ≡ max_nesting
   deeper o around d = omega arith
 
@@ -151,7 +153,7 @@ module _ (bytes : List ℕ) (inputs k at count beyond : ℕ) (e : token_at bytes
   pub inner_breaks : (place : ℕ) → Breaks bytes inputs 2 k (at + 1) place → Breaks bytes inputs 0 (suc k) at place
   inner_breaks place b o around d = opens o around d ∙ b o (o ∷ around) (deeper o around d)
 
-  module _ (before after : List ℤ) (p : Part) (r : Right bytes inputs 2 k (at + 1) count beyond before after p) (stops : sign_rank 2 (get_or bytes p.next 0) ≡ 0) where
+  module _ (before after : Steps) (p : Part) (r : Right bytes inputs 2 k (at + 1) before after p) (stops : sign_within 2 (get_or bytes p.next 0) ≡ None) where
     -- no closing bracket
     pub not_closed : get_or bytes p.next 0 ≢ 41 → Breaks bytes inputs 0 (suc k) at (suc p.next)
     not_closed n o around d =
@@ -161,7 +163,7 @@ module _ (bytes : List ℕ) (inputs k at count beyond : ℕ) (e : token_at bytes
 
     -- the closing bracket
     pub brackets_right : get_or bytes p.next 0 ≡ 41 → p.next < length bytes
-        → Right bytes inputs 0 (suc k) at count beyond before after (part_of (p.next + 1) p.row p.count p.beyond)
+        → Right bytes inputs 0 (suc k) at before after (record { next = p.next + 1; row = p.row })
     brackets_right c l =
         let closing : token_at bytes inputs p.next ≡ Closing = ap (token_of inputs) c ∙ token_closing inputs in
         let no_digit : 10 ≤ digit_of (get_or bytes p.next 0) = rw c (lit≤ tt) in
@@ -179,9 +181,10 @@ module _ (bytes : List ℕ) (inputs k at count beyond : ℕ) (e : token_at bytes
                     ∙ rw (add-one p.next) (goes_on bytes inputs p.next (holding w.sum (o ∷ around) w.product) (holding o.sum around (o.product (w.sum w.product))) l (ap (next (holding w.sum (o ∷ around) w.product)) closing));
               };
           row = r.row;
+          same_inputs = r.same_inputs;
           counted = r.counted;
           left = r.left;
-          seen = λ _. found_behind bytes beyond at h no_bracket ∙ r.seen no_digit ∙ found_behind bytes p.beyond p.next l no_digit;
+          seen = λ _. found_behind bytes before.beyond at h no_bracket ∙ r.seen no_digit ∙ found_behind bytes after.beyond p.next l no_digit;
           longer = omega (arith, r.longer);
           within = omega arith;
           few_steps = omega (arith, r.few_steps);
@@ -190,7 +193,8 @@ module _ (bytes : List ℕ) (inputs k at count beyond : ℕ) (e : token_at bytes
 
 -- ---- the whole text
 
-module _ (bytes : List ℕ) (inputs : ℕ) (before after : List ℤ) (p : Part) (r : Right bytes inputs 2 max_nesting 0 0 0 before after p) (stops : sign_rank 2 (get_or bytes p.next 0) ≡ 0) where
+module _ (bytes : List ℕ) (inputs : ℕ) (after : Steps) (p : Part) (r : Right bytes inputs 2 max_nesting 0 (no_steps inputs) after p)
+    (stops : sign_within 2 (get_or bytes p.next 0) ≡ None) where
   reached : Reaches bytes inputs 2 0 r.t p.next fresh []
   reached = r.reaches fresh [] refl
 
@@ -206,9 +210,13 @@ module _ (bytes : List ℕ) (inputs : ℕ) (before after : List ℤ) (p : Part) 
     pub read_whole : reading inputs 1 start bytes ≡ tree r.t
     read_whole = reached.reads ∙ ends_here bytes inputs p.next (suc p.next) (holding reached.sum [] reached.product) h ∙ ap tree reached.ends.0
 
-    pub seen_whole : p.beyond ≡ first_beyond 1 false bytes
+    pub seen_whole : after.beyond ≡ place_of (first_beyond 1 false bytes)
     unfolding first_beyond
     seen_whole =
         let end = get_or-eq_default bytes 0 {n = p.next} h in
-        let none : found bytes p.beyond p.next ≡ p.beyond = rw (drop_of_length-le bytes h) (pick_elim (λ (x : ℕ). x ≡ p.beyond) (eqb p.beyond 0) 0 p.beyond (λ z. sym (eqb-true p.beyond 0 z)) (λ z. refl)) in
-        sym (r.seen (rw end (lit≤ tt)) ∙ none)
+        let seen = r.seen (rw end (lit≤ tt)) in
+        sym (seen ∙ none after.beyond)
+      where
+        none : (b : Option ℕ) → found bytes b p.next ≡ b
+        none (Some b) = refl
+        none None = rw (drop_of_length-le bytes h)

@@ -9,8 +9,7 @@ use lib.ListN.{length, take, drop, take-append-drop}
 use lib.Seq.{take-length, take-take}
 use Rattle.sheet.specs.Limits.{max_steps}
 use Rattle.sheet.specs.Lines.{natural}
-use Rattle.sheet.specs.declared.Refusal.{Refusal}
-use Rattle.sheet.specs.declared.ReadAnswer.{ReadAnswer}
+use Rattle.sheet.specs.Answers.{Refusal, ReadAnswer}
 use Rattle.sheet.proofs.Choice.{pick_elim}
 use Rattle.formulas.specs.Limits.{max_text}
 use Rattle.formulas.specs.Grammar.{Tree, Formula}

@@ -14,7 +14,7 @@ use Rattle.sheet.specs.Lines.{natural, zero_end, ends_at, step_at, numbers, end_
 use Rattle.sheet.specs.Tests.{fault, counts_pass, step_passes}
 use Rattle.sheet.specs.Writing.{test_of}
 use Rattle.sheet.specs.declared.End.{End}
-use Rattle.sheet.specs.declared.Refusal.{Refusal}
+use Rattle.sheet.specs.Answers.{Refusal}
 use Rattle.sheet.specs.declared.Step.{Step}
 use Rattle.sheet.specs.declared.Line.TheVariants.{EndLine, StepLine}
 use Rattle.sheet.proofs.Trimmed.{up_to_within}

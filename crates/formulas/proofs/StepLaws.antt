@@ -21,7 +21,7 @@ use Rattle.formulas.specs.declared.InputBlock.{InputBlock}
 
 -- ---- how many steps there are
 
-length_sign : (g : Sign) (m a b : ℕ) → length (sign_steps g m a b) ≡ sign_count g
+pub length_sign : (g : Sign) (m a b : ℕ) → length (sign_steps g m a b) ≡ sign_count g
 length_sign Plus m a b = refl
 length_sign Minus m a b = refl
 length_sign Times m a b = refl

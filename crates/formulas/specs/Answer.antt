@@ -6,9 +6,8 @@ use Rattle.sheet.specs.Limits.{max_steps, end_limit}
 use Rattle.sheet.specs.Causes.{refusal, accepted, step_wrong}
 use Rattle.sheet.specs.Lines.{natural, zero_schedule}
 use Rattle.sheet.specs.Writing.{test_of}
-use Rattle.sheet.specs.declared.Refusal.{Refusal}
+use Rattle.sheet.specs.Answers.{Refusal, ReadAnswer}
 use Rattle.sheet.specs.declared.Schedule.{Schedule}
-use Rattle.sheet.specs.declared.ReadAnswer.{ReadAnswer}
 use Rattle.formulas.specs.Grammar.{Tree}
 use Rattle.formulas.specs.Reading.{Outcome, no_formula, tree, formula_of}
 use Rattle.formulas.specs.Steps.{step_of, step_count, schedule_of}

@@ -1,15 +1,30 @@
-// What the call answers: the test of the inputs, a refusal, and the schedule of a text that is a formula.
+// What the call answers: the test of the inputs, the refusal by 10, and the schedule of a text that is a formula.
 ghost use Rattle.std.specs.Prelude.{◌≡◌, ◌≤◌};
-ghost use Rattle.sheet.specs.Limits.{max_inputs};
+ghost use Rattle.sheet.specs.Limits.{max_inputs, max_steps};
 ghost use Rattle.sheet.specs.Lines.{natural};
+ghost use Rattle.sheet.specs.Results.{tested};
+ghost use Rattle.sheet.specs.declared.causes.Cause.TheVariants.{NoFormula};
 ghost use Rattle.formulas.specs.Grammar.{Tree};
-ghost use Rattle.formulas.specs.Steps.{step_count, ends_within};
-ghost use Rattle.formulas.specs.Reading.{formula_of};
+ghost use Rattle.formulas.specs.Steps.{step_count, ends_within, schedule_of};
 ghost use Rattle.formulas.specs.Answer;
 ghost use Rattle.formulas.specs.Built as Spec;
 
-use crate::{InputBlock, builder, steps};
-use sheet::{End, MAX_INPUTS, MAX_STEPS, ReadAnswer, Refusal, Schedule, Step};
+use crate::builder::Wrong;
+use crate::steps::Steps;
+use crate::{InputBlock, steps};
+use sheet::{Cause, End, MAX_INPUTS, MAX_STEPS, Refused, Schedule};
+
+// 10, at the place of a byte that no formula has there.
+impl From<Wrong> for Refused {
+    ghost from_gives = { λ w r. (r.cause ≡ NoFormula) × (r.place ≡ w.place) };
+
+    fn from(wrong: Wrong) -> Refused {
+        Refused {
+            cause: Cause::NoFormula,
+            place: wrong.place,
+        }
+    }
+}
 
 // The ends of the inputs within their count, and zeros.
 fn ends_within(block: InputBlock, inputs: usize) -> [End; MAX_INPUTS]
@@ -17,101 +32,35 @@ fn ends_within(block: InputBlock, inputs: usize) -> [End; MAX_INPUTS]
     ensures { result ≡ ends_within inputs block.ends }
 {
     let mut ends = [End { low: 0, high: 0 }; MAX_INPUTS];
-    let mut i = 0;
-    while i < inputs {
-        let e = block.ends[i];
-        ends[i] = e;
-        i += 1;
-    }
+    ends[..inputs].copy_from_slice(&block.ends[..inputs]);
     ends
 }
 
-pub fn refused(refusal: Refusal) -> ReadAnswer
-    ensures { result ≡ Answer.refused refusal }
-{
-    ReadAnswer {
-        refusal,
-        schedule: sheet::zero_schedule(),
-    }
-}
-
 // Tests the inputs by 3 and 4.
-pub fn inputs_test(block: InputBlock) -> Refusal
-    ensures { result ≡ Answer.inputs_test block }
+#[tactic(auto, unfolding(crate::specs::Answer::sheet_of))]
+pub fn inputs_test(block: InputBlock) -> Result<(), Refused>
+    ensures { tested result ≡ Answer.inputs_test block }
 {
     let ends = block.ends;
-    let zero = Step {
-        code: 1,
-        first: 0,
-        second: 0,
-        value: 0,
-    };
     sheet::test(Schedule {
         inputs: block.inputs,
         squares: block.squares,
         steps: 1,
         ends,
-        step: [zero; MAX_STEPS],
+        step: [steps::step_of(1, 0, 0, 0); MAX_STEPS],
     })
 }
 
-// The schedule of so many steps, or 11.
-fn steps_answer(
-    block: InputBlock,
-    inputs: usize,
-    count: usize,
-    numbers: &[i64; steps::STEP_NUMBERS],
-) -> ReadAnswer
-    requires { (inputs ≡ natural block.inputs) × (inputs ≤ max_inputs) }
-    ensures { (t : Tree) → count ≡ step_count t → numbers.now ≡ Spec.steps_held inputs t → result ≡ Answer.steps_answer block t }
+// The schedule of steps that there is room for.
+pub fn schedule_of(block: InputBlock, steps: &Steps) -> Schedule
+    requires { (steps.now.inputs ≡ natural block.inputs) × (steps.now.inputs ≤ max_inputs) × (steps.now.count ≤ max_steps) }
+    ensures { (t : Tree) → steps.now.count ≡ step_count t → steps.now.step ≡ Spec.steps_held steps.now.inputs t → result ≡ schedule_of block t }
 {
-    if count == 0 {
-        return refused(Refusal {
-            number: 11,
-            place: 0,
-        });
+    Schedule {
+        inputs: block.inputs,
+        squares: block.squares,
+        steps: steps.count as i64,
+        ends: ends_within(block, steps.inputs),
+        step: steps.step,
     }
-    if MAX_STEPS < count {
-        return refused(Refusal {
-            number: 11,
-            place: 0,
-        });
-    }
-    let ends = ends_within(block, inputs);
-    let step = steps::steps_from(numbers);
-    ReadAnswer {
-        refusal: Refusal {
-            number: 0,
-            place: 0,
-        },
-        schedule: Schedule {
-            inputs: block.inputs,
-            squares: block.squares,
-            steps: count as i64,
-            ends,
-            step,
-        },
-    }
-}
-
-// What is answered of a text beside inputs that pass: 10, 5, 11, or its schedule.
-pub fn text_answer(block: InputBlock, text: &[u8], inputs: usize) -> ReadAnswer
-    requires { (inputs ≡ natural block.inputs) × (inputs ≤ max_inputs) }
-    ensures { result ≡ Answer.text_answer block text.now (formula_of inputs text.now) }
-{
-    let mut numbers = [0i64; steps::STEP_NUMBERS];
-    let whole = builder::whole(text, inputs, &mut numbers);
-    if whole.wrong != 0 {
-        return refused(Refusal {
-            number: 10,
-            place: whole.wrong,
-        });
-    }
-    if whole.beyond != 0 {
-        return refused(Refusal {
-            number: 5,
-            place: whole.beyond,
-        });
-    }
-    steps_answer(block, inputs, whole.count, &numbers)
 }

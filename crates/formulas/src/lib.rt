@@ -2,9 +2,11 @@
 #![tactic(auto)]
 
 ghost use Rattle.std.specs.Prelude.{◌≡◌};
+ghost use Rattle.sheet.specs.Results.{read_answer};
 ghost use Rattle.formulas.specs.Answer.{answer_of};
 
-use sheet::{End, MAX_INPUTS, ReadAnswer};
+use crate::steps::Steps;
+use sheet::{End, MAX_INPUTS, Refused, Schedule};
 
 mod tokens; // tokens.rt: what a byte of a formula is
 mod literals; // literals.rt: literals, and the first that is beyond the limits
@@ -18,7 +20,7 @@ pub const MAX_TEXT: usize = 200;
 pub const MAX_NESTING: usize = 16;
 
 // What stands beside a formula: how many inputs there are, how many of them have square terms, and the ends of each.
-#[derive(Clone, Copy)]
+#[derive(Clone, Copy, Debug, PartialEq, Eq)]
 pub struct InputBlock {
     pub inputs: i64,
     pub squares: i64,
@@ -26,7 +28,7 @@ pub struct InputBlock {
 }
 
 // The signs of a formula.
-#[derive(Clone, Copy)]
+#[derive(Clone, Copy, PartialEq, Eq, Debug)]
 pub enum Sign {
     Plus,
     Minus,
@@ -34,8 +36,22 @@ pub enum Sign {
     Over,
 }
 
+impl Sign {
+    ghost use Rattle.formulas.specs.Grammar.{rank_of};
+
+    // Products before sums.
+    fn rank(self) -> usize
+        ensures { result ≡ rank_of self }
+    {
+        match self {
+            Sign::Times | Sign::Over => 1,
+            Sign::Plus | Sign::Minus => 2,
+        }
+    }
+}
+
 // What a byte of a formula is; a letter by its input, counted from 0.
-#[derive(Clone, Copy)]
+#[derive(Clone, Copy, PartialEq, Eq, Debug)]
 pub enum Token {
     Digit(u64),
     Letter(usize),
@@ -46,12 +62,13 @@ pub enum Token {
 }
 
 // Reads a formula: any inputs, any bytes, of any length.
-pub fn read(block: InputBlock, text: &[u8]) -> ReadAnswer
-    ensures { result ≡ answer_of block text.now }
+#[tactic(auto, using(crate::proofs::InputsPass::few_inputs, crate::proofs::InputsPass::answer_text, crate::proofs::ReadAnswers::inputs_refused))]
+pub fn read(block: InputBlock, text: &[u8]) -> Result<Schedule, Refused>
+    ensures { read_answer result ≡ answer_of block text.now }
 {
-    let refusal = answers::inputs_test(block);
-    if refusal.number != 0 {
-        return answers::refused(refusal);
-    }
-    answers::text_answer(block, text, sheet::natural(block.inputs))
+    answers::inputs_test(block)?;
+    let mut steps = Steps::new(sheet::natural(block.inputs));
+    builder::whole(text, &mut steps)?;
+    steps.test()?;
+    Ok(answers::schedule_of(block, &steps))
 }

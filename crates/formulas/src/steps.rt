@@ -1,17 +1,23 @@
-// The steps that are made: each as four numbers in a list that is lent, and all of them as a schedule holds them.
-ghost use Rattle.std.specs.Prelude.{◌≡◌, ◌+◌, ◌*◌, ◌<◌, ◌≤◌, length};
-ghost use Rattle.std.proofs.lemmas.List.Edits.{sets};
+// The steps that are made, put one behind another.
+ghost use Rattle.std.specs.Prelude.{◌≡◌, ◌+◌, ◌<◌, ◌≤◌, [], ◌∷◌};
 ghost use Rattle.sheet.specs.Limits.{max_inputs};
-ghost use Rattle.sheet.specs.Lines.{step_numbers};
-ghost use Rattle.formulas.specs.Steps.{step_of, sign_steps, sign_count};
-ghost use Rattle.formulas.specs.Built as Spec;
+ghost use Rattle.sheet.specs.Results.{tested};
+ghost use Rattle.formulas.specs.Steps.{step_of, sign_steps};
 
 use crate::Sign;
-use sheet::{MAX_STEPS, Step};
+use sheet::{Cause, MAX_STEPS, Refused, Step};
 
-// The numbers of all steps that a schedule has room for, four for each.
-pub const STEP_NUMBERS: usize = 4 * MAX_STEPS;
+// The steps made over so many inputs, in fixed memory: those that a schedule has room for, how many there are, and the place of the first literal that is
+// beyond the limits.
+#[derive(Clone, Copy)]
+pub struct Steps {
+    pub inputs: usize,
+    pub step: [Step; MAX_STEPS],
+    pub count: usize,
+    pub beyond: Option<usize>,
+}
 
+// A step by its code, a number as a sheet's line has it.
 pub fn step_of(code: usize, first: usize, second: usize, value: u64) -> Step
     requires { (code < 1000) × (first < 1000) × (second < 1000) × (value < 1000000000) }
     ensures { result ≡ step_of code first second value }
@@ -24,71 +30,73 @@ pub fn step_of(code: usize, first: usize, second: usize, value: u64) -> Step
     }
 }
 
-// Puts a step with this index where there is room for it, and returns the next index.
-pub fn put_step(numbers: &mut [i64], index: usize, t: Step) -> usize
-    requires { (length numbers.old ≡ Spec.numbers_room) × (index < 1000) }
-    ensures counted { result ≡ index + 1 }
-    ensures left { numbers.new ≡ sets numbers.old (4 * index) (step_numbers t) }
-{
-    if MAX_STEPS <= index {
-        return index + 1;
-    }
-    let p = 4 * index;
-    let code = t.code;
-    let first = t.first;
-    let second = t.second;
-    let value = t.value;
-    numbers[p] = code;
-    numbers[p + 1] = first;
-    numbers[p + 2] = second;
-    numbers[p + 3] = value;
-    index + 1
-}
+impl Steps {
+    ghost use Rattle.formulas.specs.Built as Spec;
 
-// Puts the steps of a sign between two rows, and returns how many steps there are then.
-pub fn put_sign(
-    numbers: &mut [i64],
-    g: Sign,
-    inputs: usize,
-    count: usize,
-    left: usize,
-    right: usize,
-) -> usize
-    requires { (length numbers.old ≡ Spec.numbers_room) × (inputs ≤ max_inputs) × (count < 900) × (left < 1000) × (right < 1000) }
-    ensures counted { result ≡ count + sign_count g }
-    ensures left { numbers.new ≡ sets numbers.old (4 * count) (Spec.all_numbers (sign_steps g (inputs + count) left right)) }
-{
-    match g {
-        Sign::Plus => put_step(numbers, count, step_of(2, left, right, 0)),
-        Sign::Minus => put_step(numbers, count, step_of(3, left, right, 0)),
-        Sign::Times => put_step(numbers, count, step_of(4, left, right, 0)),
-        Sign::Over => {
-            let next = put_step(&mut *numbers, count, step_of(5, right, 0, 0));
-            put_step(numbers, next, step_of(4, left, inputs + next, 0))
+    // No steps yet.
+    pub fn new(inputs: usize) -> Steps
+        ensures { result ≡ Spec.no_steps inputs }
+    {
+        Steps {
+            inputs,
+            step: [step_of(0, 0, 0, 0); MAX_STEPS],
+            count: 0,
+            beyond: None,
         }
     }
-}
 
-// The steps that so many numbers are, four for each.
-pub fn steps_from(numbers: &[i64; STEP_NUMBERS]) -> [Step; MAX_STEPS]
-    ensures { result ≡ Spec.steps_from numbers.now }
-{
-    let mut steps = [Step {
-        code: 0,
-        first: 0,
-        second: 0,
-        value: 0,
-    }; MAX_STEPS];
-    let mut i = 0;
-    while i < MAX_STEPS {
-        let p = 4 * i;
-        steps[i] = Step {
-            code: numbers[p],
-            first: numbers[p + 1],
-            second: numbers[p + 2],
-            value: numbers[p + 3],
-        };
-        i += 1;
+    // The row of the last step.
+    pub fn last_row(&self) -> usize
+        requires { (self.now.inputs ≤ max_inputs) × (self.now.count < 1000) }
+        ensures { result ≡ self.now.inputs + self.now.count }
+    {
+        self.inputs + self.count
     }
-    steps
+
+    // Puts a step behind the others; beyond the room that a schedule has it is only counted.
+    pub fn push(&mut self, step: Step)
+        requires { self.old.count < 1000 }
+        ensures { self.new ≡ Spec.with_steps self.old (step ∷ []) }
+    {
+        if self.count < MAX_STEPS {
+            self.step[self.count] = step;
+        }
+        self.count += 1;
+    }
+
+    // The refusal by 5 of a literal beyond the limits, or by 11 of no steps or of more than there is room for.
+    pub fn test(&self) -> Result<(), Refused>
+        ensures { tested result ≡ Spec.steps_refusal self.now.beyond self.now.count }
+    {
+        if let Some(place) = self.beyond {
+            return Err(Refused {
+                cause: Cause::StepWrong,
+                place,
+            });
+        }
+        if self.count == 0 || MAX_STEPS < self.count {
+            return Err(Refused {
+                cause: Cause::StepCount,
+                place: 0,
+            });
+        }
+        Ok(())
+    }
+
+    // Puts the steps of a sign between two rows.
+    pub fn push_sign(&mut self, sign: Sign, left: usize, right: usize)
+        requires { (self.old.inputs ≤ max_inputs) × (self.old.count < 900) × (left < 1000) × (right < 1000) }
+        ensures { self.new ≡ Spec.with_steps self.old (sign_steps sign (self.old.inputs + self.old.count) left right) }
+    {
+        match sign {
+            Sign::Plus => self.push(step_of(2, left, right, 0)),
+            Sign::Minus => self.push(step_of(3, left, right, 0)),
+            Sign::Times => self.push(step_of(4, left, right, 0)),
+            Sign::Over => {
+                self.push(step_of(5, right, 0, 0));
+                let reciprocal = self.last_row();
+                self.push(step_of(4, left, reciprocal, 0));
+            }
+        }
+    }
 }

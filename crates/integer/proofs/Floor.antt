@@ -7,6 +7,7 @@ use native.Mathlib.Nat.{div-add-mod', mod-lt, div-le_self, suc-mul, le_antisymm,
 use native.Mathlib.Omega.{arith}
 use lib.IntN.{ℤ, pos, negsuc, neg_ℤ, nat_abs, ◌+ℤ◌, ◌-ℤ◌, ◌*ℤ◌}
 use lib.Signed.{shr_z, ◌≤ℤ◌, ◌<ℤ◌}
+use Rattle.std.specs.Int.{int_rem_euclid}
 use Rattle.integer.specs.Floor.{floor_by, floor_quotient, floor_remainder, ceiling_quotient, UpsAgree}
 use Rattle.integer.proofs.Ring.{con, ◌⊕◌, ◌⊖◌, ◌⊗◌, neg, ◌≐◌}
 use Rattle.integer.proofs.IntegerRing.{ring_ℤ}
@@ -145,6 +146,11 @@ pub shift_is_floor : (a : ℤ) (m : ℕ) → shr_z a m ≡ floor_quotient a (pos
 unfolding floor_quotient
 shift_is_floor (pos n) m = refl
 shift_is_floor (negsuc n) m = refl
+
+-- the remainder that is not negative, as the library gives it
+pub euclid_leaves : (a : ℤ) (m : ℕ) → int_rem_euclid a (pos m) ≡ pos (remainder_by a m)
+euclid_leaves (pos n) m = refl
+euclid_leaves (negsuc n) m = ap pos (omega arith)
 
 pub zero_quotient : (d : ℤ) → floor_quotient (pos 0) d ≡ pos 0
 unfolding floor_quotient

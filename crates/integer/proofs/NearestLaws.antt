@@ -1,8 +1,11 @@
 -- Division to the nearest, exact halves upward: its quotient and remainder are the only pair of that kind, no whole number is nearer, and one as near is not above. Then
 -- magnitudes, and how the pair is worked from divisions rounded down.
-use mathlib.Core.Path.{◌≡◌, sym, ap, ◌∙◌, subst}
+use mathlib.Core.Path.{◌≡◌, refl, sym, ap, ◌∙◌, subst}
+use mathlib.Core.Bool.{Bool, true, false}
 use mathlib.Core.Logic.{◌≢◌, ⊎_elim}
-use Prim.Native.Nat.{ℕ, ◌+◌, ◌*◌, ◌-◌, ◌≤◌, ◌<◌, zero-le}
+use Prim.Native.Nat.{ℕ, ◌+◌, ◌*◌, ◌-◌, ◌≤◌, ◌<◌, min, zero-le}
+use borrow.Author.Tests.{ltb-true, ltb-false}
+use lib.Dec.{ltb}
 use native.Mathlib.Nat.{le_refl, mul-le-mul}
 use native.Mathlib.Omega.{arith}
 use lib.IntN.{ℤ, pos, negsuc, neg_ℤ, nat_abs, ◌+ℤ◌, ◌-ℤ◌, ◌*ℤ◌}
@@ -170,8 +173,8 @@ nearest_by_halves a h k =
     let f = floor_quotient a (pos h) in
     in_halves a f (floor_quotient (f +ℤ pos 1) (pos 2)) h (remainder_by a h) (remainder_by (f +ℤ pos 1) 2) k (remainder_by_small a h k) (remainder_by_small (f +ℤ pos 1) 2 (omega arith)) (floor_sum a h k) (floor_sum (f +ℤ pos 1) 2 (omega arith))
 
--- what the quotient rounded down leaves, where it is less than half a divisor ..
-pub nearest_left_near : (a : ℤ) (d : ℕ) → 0 < d → 2 * remainder_by a d < d → nat_abs (nearest_remainder a d) ≡ remainder_by a d
+-- what the quotient rounded down leaves, where it is less than half a divisor, ..
+nearest_left_near : (a : ℤ) (d : ℕ) → 0 < d → 2 * remainder_by a d < d → nat_abs (nearest_remainder a d) ≡ remainder_by a d
 nearest_left_near a d h l =
     let s = pos (remainder_by a d) in
     ap nat_abs
@@ -184,8 +187,8 @@ nearest_left_near a d h l =
     })
     ).1)
 
--- .. and where it is not, what it lacks of a divisor
-pub nearest_left_far : (a : ℤ) (d : ℕ) → 0 < d → d ≤ 2 * remainder_by a d → nat_abs (nearest_remainder a d) ≡ d - remainder_by a d
+-- .. where it is not, what it lacks of a divisor ..
+nearest_left_far : (a : ℤ) (d : ℕ) → 0 < d → d ≤ 2 * remainder_by a d → nat_abs (nearest_remainder a d) ≡ d - remainder_by a d
 nearest_left_far a d h l =
     let s = remainder_by a d in
     let f = floor_quotient a (pos d) in
@@ -202,3 +205,11 @@ nearest_left_far a d h l =
     ).1
     ∙ lacking)
     ∙ nat_abs_neg (pos (d - s))
+
+-- .. so the lesser of the two
+pub nearest_left : (a : ℤ) (d : ℕ) → 0 < d → nat_abs (nearest_remainder a d) ≡ min (remainder_by a d) (d - remainder_by a d)
+nearest_left a d h = by_test (ltb (2 * remainder_by a d) d) refl
+  where
+    by_test : (t : Bool) → ltb (2 * remainder_by a d) d ≡ t → nat_abs (nearest_remainder a d) ≡ min (remainder_by a d) (d - remainder_by a d)
+    by_test true e = let l = ltb-true (2 * remainder_by a d) d e in omega (arith, nearest_left_near a d h l)
+    by_test false e = let l = ltb-false (2 * remainder_by a d) d e in omega (arith, nearest_left_far a d h l)

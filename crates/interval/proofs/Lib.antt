@@ -1,3 +1,4 @@
 pub mod Sizes
 pub mod Holds
 pub mod RootHolds
+pub mod Ends

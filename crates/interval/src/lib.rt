@@ -8,19 +8,10 @@ ghost use Rattle.interval.specs.Interval as Spec;
 
 use affine::Range;
 use affine::limits::UNIT_SQUARED;
+use affine::root::unit_root;
+use integer::division::{floor_quotient, floor_quotient_4096};
 
-fn lesser(a: i64, b: i64) -> i64
-    ensures { result ≡ Spec.lesser a b }
-{
-    if a <= b { a } else { b }
-}
-
-fn greater(a: i64, b: i64) -> i64
-    ensures { result ≡ Spec.greater a b }
-{
-    if a <= b { b } else { a }
-}
-
+#[tactic(auto, using(crate::proofs::Sizes::sum_fits))]
 pub fn sum(x: Range, y: Range) -> Range
     requires { RangeWithin span_limit x × RangeWithin span_limit y }
     ensures { result ≡ Spec.sum x y }
@@ -31,6 +22,7 @@ pub fn sum(x: Range, y: Range) -> Range
 }
 
 // The second range taken from the first.
+#[tactic(auto, using(crate::proofs::Sizes::difference_fits))]
 pub fn difference(x: Range, y: Range) -> Range
     requires { RangeWithin span_limit x × RangeWithin span_limit y }
     ensures { result ≡ Spec.difference x y }
@@ -45,14 +37,14 @@ pub fn product(x: Range, y: Range) -> Range
     requires { RangeWithin span_limit x × RangeWithin span_limit y }
     ensures { result ≡ Spec.product x y }
 {
-    let a = x.low;
-    let b = x.high;
-    let c = y.low;
-    let d = y.high;
-    let least = lesser(lesser(a * c, a * d), lesser(b * c, b * d));
-    let greatest = greater(greater(a * c, a * d), greater(b * c, b * d));
-    let low = integer::division::floor_quotient_4096(least);
-    let high = -integer::division::floor_quotient_4096(-greatest);
+    let ac = x.low * y.low;
+    let ad = x.low * y.high;
+    let bc = x.high * y.low;
+    let bd = x.high * y.high;
+    let least = ac.min(ad).min(bc.min(bd));
+    let greatest = ac.max(ad).max(bc.max(bd));
+    let low = floor_quotient_4096(least);
+    let high = -floor_quotient_4096(-greatest);
     Range { low, high }
 }
 
@@ -61,8 +53,8 @@ pub fn reciprocal(x: Range) -> Range
     requires { (x.low ≢ pos 0) × (x.high ≢ pos 0) }
     ensures { result ≡ Spec.reciprocal x }
 {
-    let low = integer::division::floor_quotient(UNIT_SQUARED, x.high);
-    let high = -integer::division::floor_quotient(-UNIT_SQUARED, x.low);
+    let low = floor_quotient(UNIT_SQUARED, x.high);
+    let high = -floor_quotient(-UNIT_SQUARED, x.low);
     Range { low, high }
 }
 
@@ -71,8 +63,8 @@ pub fn root(x: Range) -> Range
     requires { (pos 1 ≤ℤ x.low) × (pos 1 ≤ℤ x.high) × RangeWithin span_limit x }
     ensures { result ≡ Spec.root x }
 {
-    let low = affine::root::unit_root(x.low) as i64;
-    let high = affine::root::unit_root(x.high) as i64;
+    let low = unit_root(x.low) as i64;
+    let high = unit_root(x.high) as i64;
     Range { low, high }
 }
 
@@ -80,7 +72,8 @@ pub fn root(x: Range) -> Range
 pub fn overlap(x: Range, y: Range) -> Range
     ensures { result ≡ Spec.overlap x y }
 {
-    let low = greater(x.low, y.low);
-    let high = lesser(x.high, y.high);
-    Range { low, high }
+    Range {
+        low: x.low.max(y.low),
+        high: x.high.min(y.high),
+    }
 }

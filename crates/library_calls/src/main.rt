@@ -5,10 +5,10 @@
 // each code is and what it prints; it makes the file and the same lines.
 #![tactic(auto)]
 
-ghost use Rattle.std.specs.Prelude.{◌≡◌, ◌≤◌, ◌<◌, length};
+ghost use Rattle.std.specs.Prelude.{◌≤◌, ◌<◌, length};
 
 use formulas::InputBlock;
-use sheet::{End, MAX_INPUTS, MAX_STEPS, ReadAnswer, Refusal, Schedule, Step, WriteAnswer};
+use sheet::{End, MAX_INPUTS, MAX_STEPS, Refused, Schedule, Step};
 use std::fs::File;
 use std::io;
 use std::io::Read;
@@ -32,69 +32,106 @@ const UNTOUCHED: u8 = b'?';
 const FIELD: usize = 17;
 
 const DIGITS: usize = 16;
-// 2 to the 63rd: an unsigned number from it on stands for a negative one.
-const FIRST_NEGATIVE: u64 = 9223372036854775808;
 
-// What is kept between calls, beside the tables: how many numbers of each are lent, the schedule, and what printing came to; a failure of it ends
-// the run.
+const NO_END: End = End { low: 0, high: 0 };
+
+const NO_STEP: Step = Step {
+    code: 0,
+    first: 0,
+    second: 0,
+    value: 0,
+};
+
+// What the file asks for.
+#[derive(Clone, Copy)]
+enum Call {
+    End,
+    LendTable,
+    PutNumber,
+    TakeSchedule,
+    Evaluate,
+    Range,
+    Row,
+    Same,
+    Write,
+    List,
+    TakeInputs,
+    Formula,
+    LendRanges,
+    PutRangeNumber,
+}
+
+// A code that is no call's.
+#[derive(Clone, Copy, Debug)]
+struct NoCall;
+
+impl TryFrom<u64> for Call {
+    type Error = NoCall;
+
+    fn try_from(code: u64) -> Result<Call, NoCall> {
+        match code {
+            0 => Ok(Call::End),
+            1 => Ok(Call::LendTable),
+            2 => Ok(Call::PutNumber),
+            3 => Ok(Call::TakeSchedule),
+            4 => Ok(Call::Evaluate),
+            5 => Ok(Call::Range),
+            6 => Ok(Call::Row),
+            7 => Ok(Call::Same),
+            8 => Ok(Call::Write),
+            9 => Ok(Call::List),
+            10 => Ok(Call::TakeInputs),
+            11 => Ok(Call::Formula),
+            12 => Ok(Call::LendRanges),
+            13 => Ok(Call::PutRangeNumber),
+            _ => Err(NoCall),
+        }
+    }
+}
+
+// What is kept between calls, beside the tables: how many numbers of each are lent, and the schedule.
 #[derive(Clone, Copy)]
 struct State {
     numbers: usize,
     ends: usize,
     schedule: Schedule,
-    done: bool,
-    printed: io::Result<()>,
+    ghost numbers_lent: { numbers ≤ 1612 },
+    ghost ends_lent: { ends ≤ 70 },
 }
 
 // ---- the data file
 
 fn digit(b: u8) -> u64 {
     match b {
-        b'0'..=b'9' => (b - b'0') as u64,
-        b'a'..=b'f' => (b - b'a') as u64 + 10,
+        b'0'..=b'9' => u64::from(b - b'0'),
+        b'a'..=b'f' => u64::from(b - b'a') + 10,
         _ => 0,
     }
 }
 
-fn bits(field: [u8; FIELD]) -> u64 {
-    let mut value: u64 = 0;
-    for i in 0..DIGITS {
-        value = (value << 4) | digit(field[i]);
-    }
-    value
-}
-
 // Fills the bytes from the file, as far as it goes: a read that fails ends it.
 fn read_full(file: &mut impl Read, bytes: &mut [u8]) {
-    streams::read_input(file, bytes);
+    let _ = streams::read_input(file, bytes);
 }
 
 // The next field, as an unsigned number; 0 where the file has ended.
 fn next(file: &mut impl Read) -> u64 {
     let mut field = [0u8; FIELD];
     read_full(file, &mut field);
-    bits(field)
+    let mut value: u64 = 0;
+    for &b in &field[..DIGITS] {
+        value = (value << 4) | digit(b);
+    }
+    value
 }
 
 // The next field, as a signed number.
 fn next_signed(file: &mut impl Read) -> i64 {
-    let n = next(file);
-    if n < FIRST_NEGATIVE {
-        n as i64
-    } else {
-        -1 - (u64::MAX - n) as i64
-    }
+    next(file).cast_signed()
 }
 
 fn next_size(file: &mut impl Read) -> usize {
     next(file) as usize
-}
-
-fn next_at_most(file: &mut impl Read, most: usize) -> usize
-    ensures { result ≤ most }
-{
-    let n = next_size(file);
-    if n <= most { n } else { most }
 }
 
 // Fills the lent bytes with the next ones, and passes over the byte behind them.
@@ -105,11 +142,11 @@ fn next_bytes(file: &mut impl Read, bytes: &mut [u8]) {
 }
 
 fn next_ends(file: &mut impl Read) -> [End; MAX_INPUTS] {
-    let mut ends = [End { low: 0, high: 0 }; MAX_INPUTS];
-    for i in 0..MAX_INPUTS {
+    let mut ends = [NO_END; MAX_INPUTS];
+    for end in &mut ends {
         let low = next_signed(file);
         let high = next_signed(file);
-        ends[i] = End { low, high };
+        *end = End { low, high };
     }
     ends
 }
@@ -127,25 +164,15 @@ fn next_step(file: &mut impl Read) -> Step {
     }
 }
 
-fn next_steps(file: &mut impl Read) -> [Step; MAX_STEPS] {
-    let mut steps = [Step {
-        code: 0,
-        first: 0,
-        second: 0,
-        value: 0,
-    }; MAX_STEPS];
-    for j in 0..MAX_STEPS {
-        steps[j] = next_step(file);
-    }
-    steps
-}
-
 fn next_schedule(file: &mut impl Read) -> Schedule {
     let inputs = next_signed(file);
     let squares = next_signed(file);
     let steps = next_signed(file);
     let ends = next_ends(file);
-    let step = next_steps(file);
+    let mut step = [NO_STEP; MAX_STEPS];
+    for place in &mut step {
+        *place = next_step(file);
+    }
     Schedule {
         inputs,
         squares,
@@ -160,75 +187,51 @@ fn next_inputs(file: &mut impl Read, schedule: Schedule) -> Schedule {
     let inputs = next_signed(file);
     let squares = next_signed(file);
     let ends = next_ends(file);
-    let step = schedule.step;
     Schedule {
         inputs,
         squares,
-        steps: schedule.steps,
         ends,
-        step,
+        ..schedule
     }
 }
 
 // ---- printing
 
-fn print_unsigned(rt: &impl Print, n: u64) -> io::Result<()> {
-    print!(rt; " ")?;
-    print!(rt; "{n}")
-}
-
-fn print_signed(rt: &impl Print, z: i64) -> io::Result<()> {
-    print!(rt; " ")?;
-    if z < 0 {
-        print!(rt; "-")?;
+// The number and the place of a refusal, or two zeros.
+fn print_refusal<T: Copy>(rt: &impl Print, answer: Result<T, Refused>) -> io::Result<()> {
+    match answer {
+        Ok(_) => print!(rt; " 0 0"),
+        Err(refused) => print!(rt; " {} {}", refused.cause.number(), refused.place),
     }
-    print!(rt; "{}", integer::magnitude::absolute(z))
 }
 
-fn print_line_end(rt: &impl Print) -> io::Result<()> {
-    print!(rt; "\n")
-}
-
-fn print_refusal(rt: &impl Print, refusal: Refusal) -> io::Result<()> {
-    print_unsigned(rt, refusal.number)?;
-    print_unsigned(rt, refusal.place as u64)
-}
-
-// The place behind the numbers that are equal to the one at a start and follow it.
-fn run_end(numbers: &[i64], start: usize) -> usize
-    requires { start < length numbers.now }
-    ensures { (start < result) × (result ≤ length numbers.now) }
+// How many equal numbers the slice begins with.
+fn run_length(numbers: &[i64]) -> usize
+    requires { 0 < length numbers.now }
+    ensures within { result ≤ length numbers.now }
+    ensures some { 0 < result }
 {
-    let z = numbers[start];
-    let mut end = start + 1;
-    while end < numbers.len() {
-        if numbers[end] != z {
-            return end;
+    let first = numbers[0];
+    for (i, &number) in numbers.iter().enumerate() {
+        if number != first {
+            return i;
         }
-        end += 1;
     }
-    end
+    numbers.len()
 }
 
-// So many equal numbers as one.
-fn print_run(rt: &impl Print, z: i64, count: usize) -> io::Result<()> {
-    print_signed(rt, z)?;
-    if count > 1 {
-        print!(rt; "x")?;
-        print!(rt; "{count}")?;
-    }
-    Ok(())
-}
-
+// The numbers, so many equal ones that follow each other as one.
 fn print_numbers(rt: &impl Print, numbers: &[i64]) -> io::Result<()> {
-    let mut i: usize = 0;
-    while i < numbers.len() {
-        let z = numbers[i];
-        let end = run_end(numbers, i);
-        print_run(rt, z, end - i)?;
-        i = end;
+    let mut rest = numbers;
+    while !rest.is_empty() {
+        let count = run_length(rest);
+        print!(rt; " {}", rest[0])?;
+        if count > 1 {
+            print!(rt; "x{count}")?;
+        }
+        rest = &rest[count..];
     }
-    print_line_end(rt)
+    println!(rt; "")
 }
 
 fn print_tables(rt: &impl Print, table: &[i64], ranges: &[i64]) -> io::Result<()> {
@@ -238,69 +241,43 @@ fn print_tables(rt: &impl Print, table: &[i64], ranges: &[i64]) -> io::Result<()
     print_numbers(rt, ranges)
 }
 
-// How many of the bytes stand before the untouched ones that end them.
-fn front_length(bytes: &[u8]) -> usize
-    ensures { result ≤ length bytes.now }
-{
-    let mut n = bytes.len();
-    while n > 0 {
-        if bytes[n - 1] != UNTOUCHED {
-            return n;
-        }
-        n -= 1;
-    }
-    0
-}
-
+// The bytes before the untouched ones that end them, and how many these are.
 fn print_bytes(rt: &impl Print, bytes: &[u8]) -> io::Result<()> {
-    let length = front_length(bytes);
-    rt.write_all(&bytes[0..length])?;
-    print_line_end(rt)?;
-    print!(rt; "left")?;
-    print_unsigned(rt, (bytes.len() - length) as u64)?;
-    print_line_end(rt)
+    let touched = match bytes.iter().rposition(|&b| b != UNTOUCHED) {
+        Some(last) => &bytes[..=last],
+        None => &bytes[..0],
+    };
+    rt.write_all(touched)?;
+    println!(rt; "\nleft {}", bytes.len() - touched.len())
 }
 
 // The answer of a call that writes, and the bytes lent to it.
-fn print_written(rt: &impl Print, answer: WriteAnswer, bytes: &[u8]) -> io::Result<()> {
-    let refusal = answer.refusal;
-    print_refusal(rt, refusal)?;
-    print_unsigned(rt, answer.length as u64)?;
-    print_line_end(rt)?;
+fn print_written(rt: &impl Print, answer: Result<usize, Refused>, bytes: &[u8]) -> io::Result<()> {
+    print_refusal(rt, answer)?;
+    println!(rt; " {}", answer.unwrap_or(0))?;
     print_bytes(rt, bytes)
 }
 
-fn print_end(rt: &impl Print, number: usize, end: End) -> io::Result<()> {
-    print!(rt; " end")?;
-    print_unsigned(rt, number as u64)?;
-    print_signed(rt, end.low)?;
-    print_signed(rt, end.high)
-}
-
-fn print_ends(rt: &impl Print, ends: [End; MAX_INPUTS]) -> io::Result<()> {
-    for i in 0..MAX_INPUTS {
-        let end = ends[i];
-        if end.low != 0 || end.high != 0 {
-            print_end(rt, i + 1, end)?;
+fn print_ends(rt: &impl Print, ends: &[End; MAX_INPUTS]) -> io::Result<()> {
+    for (i, end) in ends.iter().enumerate() {
+        if *end != NO_END {
+            print!(rt; " end {} {} {}", i + 1, end.low, end.high)?;
         }
     }
     Ok(())
 }
 
-fn print_step(rt: &impl Print, number: usize, step: Step) -> io::Result<()> {
-    print!(rt; " step")?;
-    print_unsigned(rt, number as u64)?;
-    print_signed(rt, step.code)?;
-    print_signed(rt, step.first)?;
-    print_signed(rt, step.second)?;
-    print_signed(rt, step.value)
-}
-
-fn print_steps(rt: &impl Print, steps: [Step; MAX_STEPS]) -> io::Result<()> {
-    for j in 0..MAX_STEPS {
-        let step = steps[j];
-        if step.code != 0 || step.first != 0 || step.second != 0 || step.value != 0 {
-            print_step(rt, j + 1, step)?;
+fn print_steps(rt: &impl Print, steps: &[Step; MAX_STEPS]) -> io::Result<()> {
+    for (j, step) in steps.iter().enumerate() {
+        if *step != NO_STEP {
+            print!(rt;
+                " step {} {} {} {} {}",
+                j + 1,
+                step.code,
+                step.first,
+                step.second,
+                step.value
+            )?;
         }
     }
     Ok(())
@@ -308,38 +285,24 @@ fn print_steps(rt: &impl Print, steps: [Step; MAX_STEPS]) -> io::Result<()> {
 
 // A schedule: its counts, and every end and step that is not all zeros, beyond the counts too.
 fn print_schedule(rt: &impl Print, schedule: Schedule) -> io::Result<()> {
-    print_signed(rt, schedule.inputs)?;
-    print_signed(rt, schedule.squares)?;
-    print_signed(rt, schedule.steps)?;
-    let ends = schedule.ends;
-    print_ends(rt, ends)?;
-    let step = schedule.step;
-    print_steps(rt, step)?;
-    print_line_end(rt)
-}
-
-fn print_read(rt: &impl Print, answer: ReadAnswer) -> io::Result<()> {
-    let refusal = answer.refusal;
-    print_refusal(rt, refusal)?;
-    let schedule = answer.schedule;
-    print_schedule(rt, schedule)
+    print!(rt;
+        " {} {} {}",
+        schedule.inputs, schedule.squares, schedule.steps
+    )?;
+    print_ends(rt, &schedule.ends)?;
+    print_steps(rt, &schedule.step)?;
+    println!(rt; "")
 }
 
 // ---- the calls, on the parts of the tables that are lent
-
-fn fill(table: &mut [i64], value: i64) {
-    for i in 0..table.len() {
-        table[i] = value;
-    }
-}
 
 // Fills the front of a table that is lent from now on: its length.
 fn lend(file: &mut impl Read, table: &mut [i64]) -> usize
     ensures { result ≤ length table.old }
 {
-    let length = next_at_most(file, table.len());
+    let length = next_size(file).min(table.len());
     let value = next_signed(file);
-    fill(&mut table[0..length], value);
+    table[..length].fill(value);
     length
 }
 
@@ -357,23 +320,24 @@ fn evaluate(
     table: &mut [i64],
     ranges: &mut [i64],
 ) -> io::Result<()> {
-    let refusal = evaluation::evaluate(schedule, &mut *table, &mut *ranges);
+    let answer = evaluation::evaluate(schedule, &mut *table, &mut *ranges);
     print!(rt; "evaluate")?;
-    print_refusal(rt, refusal)?;
-    print_line_end(rt)?;
-    print_tables(rt, &*table, &*ranges)
+    print_refusal(rt, answer)?;
+    println!(rt; "")?;
+    print_tables(rt, table, ranges)
 }
 
 fn range(rt: &impl Print, file: &mut impl Read, table: &[i64], ranges: &[i64]) -> io::Result<()> {
     let count = next_size(file);
     let row = next_size(file);
     let answer = evaluation::range(table, ranges, count, row);
-    let refusal = answer.refusal;
+    let (low, high) = match answer {
+        Ok(range) => (range.low, range.high),
+        Err(_) => (0, 0),
+    };
     print!(rt; "range")?;
-    print_refusal(rt, refusal)?;
-    print_signed(rt, answer.low)?;
-    print_signed(rt, answer.high)?;
-    print_line_end(rt)
+    print_refusal(rt, answer)?;
+    println!(rt; " {low} {high}")
 }
 
 fn row(rt: &impl Print, file: &mut impl Read, table: &[i64]) -> io::Result<()> {
@@ -388,73 +352,44 @@ fn same(rt: &impl Print, file: &mut impl Read, table: &[i64]) -> io::Result<()> 
     let first = next_size(file);
     let second = next_size(file);
     let answer = evaluation::same(table, count, first, second);
-    let refusal = answer.refusal;
     print!(rt; "same")?;
-    print_refusal(rt, refusal)?;
-    print_unsigned(rt, if answer.same { 1 } else { 0 })?;
-    print_line_end(rt)
+    print_refusal(rt, answer)?;
+    println!(rt; " {}", u8::from(answer.unwrap_or(false)))
 }
 
-fn write(rt: &impl Print, schedule: Schedule, out: &mut [u8]) -> io::Result<()> {
+fn write(rt: &impl Print, file: &mut impl Read, schedule: Schedule) -> io::Result<()> {
+    let mut room = [UNTOUCHED; WRITE_ROOM];
+    let length = next_size(file).min(WRITE_ROOM);
+    let out = &mut room[..length];
     let answer = sheet::write(schedule, &mut *out);
     print!(rt; "write")?;
-    print_written(rt, answer, &*out)
-}
-
-fn write_front(
-    rt: &impl Print,
-    file: &mut impl Read,
-    schedule: Schedule,
-    out: &mut [u8],
-) -> io::Result<()> {
-    let length = next_at_most(file, out.len());
-    write(rt, schedule, &mut out[0..length])
-}
-
-fn write_fresh(rt: &impl Print, file: &mut impl Read, schedule: Schedule) -> io::Result<()> {
-    let mut out = [UNTOUCHED; WRITE_ROOM];
-    write_front(rt, file, schedule, &mut out)
+    print_written(rt, answer, out)
 }
 
 fn list(
     rt: &impl Print,
-    sheet: &[u8],
+    file: &mut impl Read,
     table: &mut [i64],
     ranges: &mut [i64],
-    text: &mut [u8],
 ) -> io::Result<()> {
+    let mut sheet_room = [0u8; SHEET_ROOM];
+    let mut text_room = [UNTOUCHED; LIST_ROOM];
+    let sheet_length = next_size(file).min(SHEET_ROOM);
+    let text_length = next_size(file).min(LIST_ROOM);
+    let sheet = &mut sheet_room[..sheet_length];
+    let text = &mut text_room[..text_length];
+    next_bytes(file, &mut *sheet);
     let answer = listing::list(sheet, &mut *table, &mut *ranges, &mut *text);
     print!(rt; "list")?;
-    print_written(rt, answer, &*text)?;
-    print_tables(rt, &*table, &*ranges)
+    print_written(rt, answer, text)?;
+    print_tables(rt, table, ranges)
 }
 
-fn list_front(
-    rt: &impl Print,
-    file: &mut impl Read,
-    sheet: &mut [u8],
-    table: &mut [i64],
-    ranges: &mut [i64],
-    text: &mut [u8],
-) -> io::Result<()> {
-    let length = next_at_most(file, sheet.len());
-    let room = next_at_most(file, text.len());
-    next_bytes(file, &mut sheet[0..length]);
-    list(rt, &sheet[0..length], table, ranges, &mut text[0..room])
-}
-
-fn list_fresh(
-    rt: &impl Print,
-    file: &mut impl Read,
-    table: &mut [i64],
-    ranges: &mut [i64],
-) -> io::Result<()> {
-    let mut sheet = [0u8; SHEET_ROOM];
-    let mut text = [UNTOUCHED; LIST_ROOM];
-    list_front(rt, file, &mut sheet, table, ranges, &mut text)
-}
-
-fn formula(rt: &impl Print, schedule: Schedule, text: &[u8]) -> io::Result<()> {
+fn formula(rt: &impl Print, file: &mut impl Read, schedule: Schedule) -> io::Result<()> {
+    let mut room = [0u8; FORMULA_ROOM];
+    let length = next_size(file).min(FORMULA_ROOM);
+    let text = &mut room[..length];
+    next_bytes(file, &mut *text);
     let ends = schedule.ends;
     let block = InputBlock {
         inputs: schedule.inputs,
@@ -463,47 +398,32 @@ fn formula(rt: &impl Print, schedule: Schedule, text: &[u8]) -> io::Result<()> {
     };
     let answer = formulas::read(block, text);
     print!(rt; "formula")?;
-    print_read(rt, answer)
+    print_refusal(rt, answer)?;
+    print_schedule(rt, answer.unwrap_or(sheet::zero_schedule()))
 }
 
-fn formula_front(
+// Makes a call on the parts of the tables that are lent; the others change what is kept.
+fn make_call(
     rt: &impl Print,
     file: &mut impl Read,
-    schedule: Schedule,
-    text: &mut [u8],
-) -> io::Result<()> {
-    let length = next_at_most(file, text.len());
-    next_bytes(file, &mut text[0..length]);
-    formula(rt, schedule, &text[0..length])
-}
-
-fn formula_fresh(rt: &impl Print, file: &mut impl Read, schedule: Schedule) -> io::Result<()> {
-    let mut text = [0u8; FORMULA_ROOM];
-    formula_front(rt, file, schedule, &mut text)
-}
-
-// Makes the call of a code on the parts of the tables that are lent.
-fn call(
-    rt: &impl Print,
-    file: &mut impl Read,
-    code: u64,
+    call: Call,
     schedule: Schedule,
     table: &mut [i64],
     ranges: &mut [i64],
 ) -> io::Result<()> {
-    match code {
-        2 => {
+    match call {
+        Call::PutNumber => {
             put(file, table);
             Ok(())
         }
-        4 => evaluate(rt, schedule, table, ranges),
-        5 => range(rt, file, &*table, &*ranges),
-        6 => row(rt, file, &*table),
-        7 => same(rt, file, &*table),
-        8 => write_fresh(rt, file, schedule),
-        9 => list_fresh(rt, file, table, ranges),
-        11 => formula_fresh(rt, file, schedule),
-        13 => {
+        Call::Evaluate => evaluate(rt, schedule, table, ranges),
+        Call::Range => range(rt, file, table, ranges),
+        Call::Row => row(rt, file, table),
+        Call::Same => same(rt, file, table),
+        Call::Write => write(rt, file, schedule),
+        Call::List => list(rt, file, table, ranges),
+        Call::Formula => formula(rt, file, schedule),
+        Call::PutRangeNumber => {
             put(file, ranges);
             Ok(())
         }
@@ -511,64 +431,57 @@ fn call(
     }
 }
 
-// The state before the next call.
-fn going_on(numbers: usize, ends: usize, schedule: Schedule) -> State
-    ensures { (result.numbers ≡ numbers) × (result.ends ≡ ends) }
-{
-    State {
-        numbers,
-        ends,
-        schedule,
-        done: false,
-        printed: Ok(()),
-    }
-}
-
-// Makes the next call: the state after it.
+// Makes the next call: the state after it, or none at the end. A code that is no call's is passed over.
 fn step(
     rt: &impl Print,
     file: &mut impl Read,
-    table: &mut [i64],
-    ranges: &mut [i64],
+    table: &mut [i64; TABLE_ROOM],
+    ranges: &mut [i64; RANGES_ROOM],
     state: State,
-) -> State
-    requires { (state.numbers ≤ length table.old) × (state.ends ≤ length ranges.old) }
-    ensures { (result.numbers ≤ length table.old) × (result.ends ≤ length ranges.old) }
-{
-    let code = next(file);
-    let numbers = state.numbers;
-    let ends = state.ends;
-    let schedule = state.schedule;
-    match code {
-        0 => State {
-            numbers,
+) -> io::Result<Option<State>> {
+    let Ok(call) = Call::try_from(next(file)) else {
+        return Ok(Some(state));
+    };
+    let State {
+        numbers,
+        ends,
+        schedule,
+    } = state;
+    let state = match call {
+        Call::End => return Ok(None),
+        Call::LendTable => State {
+            numbers: lend(file, table),
             ends,
             schedule,
-            done: true,
-            printed: Ok(()),
         },
-        1 => going_on(lend(file, table), ends, schedule),
-        3 => going_on(numbers, ends, next_schedule(file)),
-        10 => going_on(numbers, ends, next_inputs(file, schedule)),
-        12 => going_on(numbers, lend(file, ranges), schedule),
+        Call::LendRanges => State {
+            numbers,
+            ends: lend(file, ranges),
+            schedule,
+        },
+        Call::TakeSchedule => State {
+            numbers,
+            ends,
+            schedule: next_schedule(file),
+        },
+        Call::TakeInputs => State {
+            numbers,
+            ends,
+            schedule: next_inputs(file, schedule),
+        },
         _ => {
-            let printed = call(
+            make_call(
                 rt,
                 file,
-                code,
+                call,
                 schedule,
-                &mut table[0..numbers],
-                &mut ranges[0..ends],
-            );
-            State {
-                numbers,
-                ends,
-                schedule,
-                done: printed.is_err(),
-                printed,
-            }
+                &mut table[..numbers],
+                &mut ranges[..ends],
+            )?;
+            state
         }
-    }
+    };
+    Ok(Some(state))
 }
 
 fn make_calls(rt: &impl Print, file: &mut impl Read) -> io::Result<()> {
@@ -578,25 +491,23 @@ fn make_calls(rt: &impl Print, file: &mut impl Read) -> io::Result<()> {
         numbers: 0,
         ends: 0,
         schedule: sheet::zero_schedule(),
-        done: false,
-        printed: Ok(()),
     };
     // A proved loop ends, and nothing says that a file does: no run uses these turns up.
-    let mut turns = u64::MAX;
-    while turns > 0 && !state.done {
-        state = step(rt, file, &mut table, &mut ranges, state);
-        turns -= 1;
+    for _ in 0..u64::MAX {
+        match step(rt, file, &mut table, &mut ranges, state)? {
+            Some(next) => state = next,
+            None => break,
+        }
     }
-    state.printed
+    Ok(())
 }
 
 fn main(rt: HostRuntime) -> io::Result<()> {
-    let mut file = match File::open(&rt, "calls") {
-        Ok(file) => file,
+    match File::open(&rt, "calls") {
+        Ok(mut file) => make_calls(&rt, &mut file),
         Err(e) => {
             streams::fail(&rt, "calls", e);
-            return Ok(());
+            Ok(())
         }
-    };
-    make_calls(&rt, &mut file)
+    }
 }

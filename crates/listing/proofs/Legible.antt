@@ -13,7 +13,7 @@ use Rattle.affine.specs.Row.{span}
 use Rattle.affine.proofs.RowSize.{element_within}
 use Rattle.interval.specs.Interval.{RangeWithin}
 use Rattle.sheet.specs.Number.{digit_of}
-use Rattle.sheet.specs.declared.Refusal.{Refusal}
+use Rattle.sheet.specs.Answers.{Refusal}
 use Rattle.sheet.proofs.Numeral.{field_complete}
 use Rattle.sheet.proofs.RefusalSize.{Small, last_place, read_small}
 use Rattle.evaluation.specs.Table.{row_part, range_at, RangesOrdered}

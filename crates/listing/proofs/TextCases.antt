@@ -7,7 +7,7 @@ use borrow.Author.Tests.{eq-eqb, ne_eqb, lt-ltb, le-ltb}
 use lib.IntN.{ℤ}
 use lib.ListN.{length}
 use Rattle.sheet.specs.declared.Schedule.{Schedule}
-use Rattle.sheet.specs.declared.WriteAnswer.{WriteAnswer}
+use Rattle.sheet.specs.Answers.{WriteAnswer}
 use Rattle.sheet.specs.Causes.{accepted, bytes_too_short}
 use Rattle.sheet.specs.Reading.{read_of}
 use Rattle.sheet.specs.Writing.{not_written}

@@ -9,7 +9,7 @@ use lib.ListN.{length, length-append}
 use Rattle.affine.specs.Limits.{symbols}
 use Rattle.affine.proofs.Lists.{pick_elim}
 use Rattle.sheet.specs.declared.Schedule.{Schedule}
-use Rattle.sheet.specs.declared.Refusal.{Refusal}
+use Rattle.sheet.specs.Answers.{Refusal}
 use Rattle.sheet.specs.Text.{line, texts}
 use Rattle.sheet.specs.Reading.{read_of}
 use Rattle.sheet.proofs.FieldLine.{line_short}

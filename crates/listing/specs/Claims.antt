@@ -3,8 +3,8 @@
 use Rattle.std.specs.Prelude.{◌≡◌, ◌⊎◌, List, ◌∷◌, ◌++◌, ℕ, ◌+◌, ◌≤◌, ◌<◌, ℤ, pos, length, take, drop}
 use Rattle.affine.specs.Lists.{at}
 use Rattle.sheet.specs.declared.Schedule.{Schedule}
-use Rattle.sheet.specs.declared.Refusal.{Refusal}
-use Rattle.sheet.specs.declared.number.Field.TheVariants.{Number}
+use Rattle.sheet.specs.Answers.{Refusal}
+use Rattle.sheet.specs.Answers.{Number}
 use Rattle.sheet.specs.Limits.{max_bytes}
 use Rattle.sheet.specs.Number.{field_at}
 use Rattle.sheet.specs.Reading.{read_of}

@@ -2,7 +2,7 @@
 use Rattle.std.specs.Prelude.{◌≡◌, List, ℕ, ltb, ℤ, length}
 use Rattle.std.proofs.lemmas.List.Edits.{sets}
 use Rattle.affine.specs.Lists.{pick}
-use Rattle.sheet.specs.declared.WriteAnswer.{WriteAnswer}
+use Rattle.sheet.specs.Answers.{WriteAnswer}
 use Rattle.sheet.specs.Causes.{accepted, bytes_too_short}
 use Rattle.sheet.specs.Writing.{not_written}
 use Rattle.listing.specs.Listing.{text_of, table_of, ranges_of}

@@ -2,7 +2,7 @@
 use Rattle.std.specs.Prelude.{List, [], ◌∷◌, ◌++◌, ℕ, zero, suc, ◌-◌, eqb, ℤ, pos, replicate}
 use Rattle.affine.specs.Lists.{pick, at}
 use Rattle.sheet.specs.declared.Schedule.{Schedule}
-use Rattle.sheet.specs.declared.Refusal.{Refusal}
+use Rattle.sheet.specs.Answers.{Refusal}
 use Rattle.sheet.specs.Text.{line, texts}
 use Rattle.sheet.specs.Reading.{read_of}
 use Rattle.evaluation.specs.Table.{table_after, ranges_after}

@@ -3,10 +3,12 @@
 
 ghost use Rattle.std.specs.Prelude.{◌≡◌, ◌≤◌, length};
 ghost use Rattle.sheet.specs.Wrote.{Wrote};
+ghost use Rattle.sheet.specs.Results.{write_answer};
 ghost use Rattle.listing.specs.Listing.{schedule_text, table_left, ranges_left};
 ghost use Rattle.listing.specs.Listed.{Listed, text_room};
 
-use sheet::{Refusal, Schedule, WriteAnswer};
+use rows::Rows;
+use sheet::{Cause, Refused, Schedule};
 
 mod rows; // rows.rt: the line of a row
 mod texts; // texts.rt: the listing of a table's rows, and a refusal
@@ -29,45 +31,37 @@ fn list_schedule(
     ensures left { table.new ≡ table_left schedule table.old ranges.old }
     ensures told { ranges.new ≡ ranges_left schedule table.old ranges.old }
 {
-    let refusal = evaluation::evaluate(schedule, &mut *table, &mut *ranges);
-    if refusal.number != 0 {
-        return texts::put_refusal(&mut *text, refusal);
+    match evaluation::evaluate(schedule, table, ranges) {
+        Ok(()) => {
+            let rows = Rows {
+                table,
+                ranges,
+                count: evaluation::row_count(schedule),
+            };
+            texts::put_listing(text, &rows)
+        }
+        Err(refused) => texts::put_refusal(text, refused),
     }
-    texts::put_listing(
-        &mut *text,
-        &*table,
-        &*ranges,
-        evaluation::row_count(schedule),
-    )
 }
 
 // Reads a sheet, evaluates it into the lent tables and writes the whole text that is printed, its listing or its refusal, at the start of the lent
 // bytes: any bytes, any tables. Fewer than TEXT_ROOM bytes for the text are refused with 8, and nothing is touched.
-pub fn list(sheet: &[u8], table: &mut [i64], ranges: &mut [i64], text: &mut [u8]) -> WriteAnswer
-    ensures { Listed sheet.now table.old table.new ranges.old ranges.new text.old text.new result }
+pub fn list(
+    sheet: &[u8],
+    table: &mut [i64],
+    ranges: &mut [i64],
+    text: &mut [u8],
+) -> Result<usize, Refused>
+    ensures { Listed sheet.now table.old table.new ranges.old ranges.new text.old text.new (write_answer result) }
 {
     if text.len() < TEXT_ROOM {
-        return WriteAnswer {
-            refusal: Refusal {
-                number: 8,
-                place: 0,
-            },
-            length: 0,
-        };
-    }
-    let answer = sheet::read(sheet);
-    let refusal = answer.refusal;
-    let schedule = answer.schedule;
-    let length = if refusal.number != 0 {
-        texts::put_refusal(&mut *text, refusal)
-    } else {
-        list_schedule(schedule, &mut *table, &mut *ranges, &mut *text)
-    };
-    WriteAnswer {
-        refusal: Refusal {
-            number: 0,
+        return Err(Refused {
+            cause: Cause::RoomTooShort,
             place: 0,
-        },
-        length,
+        });
     }
+    Ok(match sheet::read(sheet) {
+        Ok(schedule) => list_schedule(schedule, table, ranges, text),
+        Err(refused) => texts::put_refusal(text, refused),
+    })
 }

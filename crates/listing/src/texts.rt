@@ -2,48 +2,42 @@
 ghost use Rattle.std.specs.Prelude.{◌+◌, ◌≤◌, length};
 ghost use Rattle.sheet.specs.Text.{texts};
 ghost use Rattle.sheet.specs.Wrote.{Wrote};
-ghost use Rattle.evaluation.specs.Table.{RangesOrdered};
+ghost use Rattle.sheet.specs.Results.{refusal_of};
 ghost use Rattle.listing.specs.Listing.{row_text, listing, refusal_text};
-ghost use Rattle.listing.specs.Held.{RowsHeld};
 ghost use Rattle.listing.specs.Listed.{text_room};
 
-use crate::rows::row_numbers;
-use sheet::Refusal;
+use crate::rows::Rows;
+use sheet::Refused;
 
 // Writes the lines of the tables' rows from a position on.
-fn put_rows(text: &mut [u8], at: usize, table: &[i64], ranges: &[i64], count: usize) -> usize
-    requires rows_held { RowsHeld table.now count × RangesOrdered ranges.now count }
-    requires count_in_bounds { at + length (texts count 1 (row_text table.now ranges.now count)) ≤ length text.old }
-    ensures { Wrote text.old text.new at result (texts count 1 (row_text table.now ranges.now count)) }
+fn put_rows(text: &mut [u8], at: usize, rows: &Rows) -> usize
+    requires { at + length (texts rows.now.count 1 (row_text rows.now.table.now rows.now.ranges.now rows.now.count)) ≤ length text.old }
+    ensures { Wrote text.old text.new at result (texts rows.now.count 1 (row_text rows.now.table.now rows.now.ranges.now rows.now.count)) }
 {
     let mut p = at;
-    let mut row: usize = 0;
-    while row < count {
-        row += 1;
-        let numbers = row_numbers(table, ranges, count, row);
-        p = sheet::put_fields(&mut *text, p, &numbers);
+    for i in 0..rows.count {
+        p = sheet::put_fields(text, p, &rows.numbers(i + 1));
     }
     p
 }
 
 // Writes the listing of the tables' rows at the start of the bytes.
-pub fn put_listing(text: &mut [u8], table: &[i64], ranges: &[i64], count: usize) -> usize
-    requires rows_held { RowsHeld table.now count × RangesOrdered ranges.now count }
-    requires text_room_in_bounds { text_room ≤ length text.old }
-    ensures { Wrote text.old text.new 0 result (listing table.now ranges.now count) }
+pub fn put_listing(text: &mut [u8], rows: &Rows) -> usize
+    requires { text_room ≤ length text.old }
+    ensures { Wrote text.old text.new 0 result (listing rows.now.table.now rows.now.ranges.now rows.now.count) }
 {
-    let at = sheet::put_bytes(&mut *text, 0, b"row low high own same\n");
-    put_rows(&mut *text, at, table, ranges, count)
+    let at = sheet::put_bytes(text, 0, b"row low high own same\n");
+    put_rows(text, at, rows)
 }
 
 // Writes a refusal at the start of the bytes.
-pub fn put_refusal(text: &mut [u8], refusal: Refusal) -> usize
+pub fn put_refusal(text: &mut [u8], refused: Refused) -> usize
     requires { text_room ≤ length text.old }
-    ensures { Wrote text.old text.new 0 result (refusal_text refusal) }
+    ensures { Wrote text.old text.new 0 result (refusal_text (refusal_of refused)) }
 {
-    let at = sheet::put_bytes(&mut *text, 0, b"refused place\n");
-    let at = sheet::put_count(&mut *text, at, refusal.number);
-    let at = sheet::put_bytes(&mut *text, at, b" ");
-    let at = sheet::put_count(&mut *text, at, refusal.place as u64);
-    sheet::put_bytes(&mut *text, at, b"\n")
+    let at = sheet::put_bytes(text, 0, b"refused place\n");
+    let at = sheet::put_count(text, at, refused.cause.number());
+    let at = sheet::put_bytes(text, at, b" ");
+    let at = sheet::put_count(text, at, refused.place as u64);
+    sheet::put_bytes(text, at, b"\n")
 }

@@ -1,38 +1,34 @@
--- Whatever the span test says, an answer may be an operand where its row and its range may.
-use mathlib.Core.Bool.{Bool, true, false}
-use mathlib.Core.Path.{◌≡◌}
+-- A row that was made may be an operand where its coefficients and its range may.
+use mathlib.Core.Path.{◌≡◌, sym, ap, ◌∙◌, subst}
 use Prim.Native.Nat.{ℕ}
-use native.Mathlib.Omega.{arith}
+use mathlib.Core.Path.{refl}
+use Rattle.std.specs.Prelude.{Result, Ok, Err, IfOk, ◌≤◌}
+use Rattle.affine.specs.Limits.{span_limit}
+use Rattle.affine.specs.declared.NoRow.{NoRow}
 use Rattle.affine.specs.declared.Row.{Row}
 use Rattle.affine.specs.declared.Range.{Range}
-use Rattle.affine.specs.declared.Answer.{Answer}
-use Rattle.affine.specs.declared.Status.TheVariants.{SpanPassed}
-use Rattle.affine.specs.Limits.{symbols}
-use Rattle.affine.specs.Row.{within_span, NoneFrom}
-use Rattle.affine.specs.Steps.{accepted, refused, checked_with}
+use Rattle.affine.specs.declared.Made.{Made}
+use Rattle.affine.specs.Answer.{Answer, Accepted}
+use Rattle.affine.specs.Told.{answer_of}
+use Rattle.affine.specs.Row.{span, radius, NoneFrom}
+use Rattle.affine.specs.Steps.{accepted, checked_with}
 use Rattle.affine.specs.Root.{Centred}
-use Rattle.integer.proofs.Order.{pos-≤ℤ}
-use Rattle.affine.proofs.Lists.{pick_elim}
-use Rattle.affine.proofs.Support.{at_replicate}
-use Rattle.affine.proofs.Answers.{answer_within, answer_row, answer_radius}
-use Rattle.row_examples.specs.Operand.{Operand}
+use Rattle.affine.proofs.Answers.{checked_accepted, answer_within, answer_radius}
+use Rattle.row_examples.specs.Operand.{OperandOf}
 
-refused_centred : Centred (refused SpanPassed).range (refused SpanPassed).row
-refused_centred =
+pub made_operand : (k : ℕ) (m : Made) (r : Row) (own : Range) → answer_of (Ok m) ≡ checked_with r own → NoneFrom k r.linear → Centred own r → OperandOf k m
+made_operand k m r own e none centred =
+    let accepted_is : checked_with r own ≡ accepted r own = checked_accepted r own (ap (λ (a : Answer). a.status) (sym e)) in
+    let row : m.row ≡ r = ap (λ (a : Answer). a.row) (e ∙ accepted_is) in
+    let range : m.range ≡ own = ap (λ (a : Answer). a.range) (e ∙ accepted_is) in
     record {
-      outweighs = λ z. absurd (let q : ◌≡◌ {A = Bool} true false = z in let n : ◌≡◌ {A = ℕ} 0 1 = cc in omega arith);
-      low_below = pos-≤ℤ (omega arith);
+      within = subst (λ (x : Row). span x ≤ span_limit) (sym (ap (λ (a : Answer). a.row) e)) (answer_within r own);
+      radius_told = ap (λ (a : Answer). a.radius) e ∙ answer_radius r own ∙ sym (ap (λ (a : Answer). radius a.row) e);
+      none_later = subst (λ (x : Row). NoneFrom k x.linear) (sym row) none;
+      centred = subst (λ (x : Row). Centred m.range x) (sym row) (subst (λ (o : Range). Centred o r) (sym range) centred);
     }
 
-checked_centred : (r : Row) (own : Range) → Centred own r → Centred (checked_with r own).range (checked_with r own).row
-checked_centred r own h =
-    pick_elim (λ (a : Answer). Centred a.range a.row) (within_span r) (accepted r own) (refused SpanPassed) (λ e. h) (λ e. refused_centred)
-
-pub checked_operand : (k : ℕ) (r : Row) (own : Range) → NoneFrom k r.linear → Centred own r → Operand k (checked_with r own)
-checked_operand k r own none centred =
-    record {
-      within = answer_within r own;
-      radius_told = answer_radius r own;
-      none_later = answer_row (λ r. NoneFrom k r.linear) r own none (λ i l. at_replicate symbols i);
-      centred = checked_centred r own centred;
-    }
+-- what holds of every row with a result's answer holds of the row that the result has
+pub of_made : (a : Result Made NoRow) (P : Made → Type 0) → ((m : Made) → answer_of (Ok m) ≡ answer_of a → P m) → IfOk a P
+of_made (Ok m) P f = f m refl
+of_made (Err e) P f = tt

@@ -2,206 +2,138 @@
 // which row owns which symbol, and makes the same lines.
 #![tactic(auto)]
 
-ghost use Rattle.std.specs.Prelude.{ℕ, ◌≤◌, ◌<◌, nat_abs, ◌≤ℤ◌};
-ghost use Rattle.affine.specs.Limits.{symbols, paired, span_limit};
-ghost use Rattle.row_examples.specs.Operand.{Operand};
+ghost use Rattle.std.specs.Prelude.{IfOk, ℕ, ◌≡◌, ◌≤◌, nat_abs, ◌≤ℤ◌};
+ghost use Rattle.affine.specs.Limits.{paired, span_limit};
+ghost use Rattle.row_examples.specs.Operand.{OperandOf};
 
-use affine::{Answer, Range, Row, Status};
+use affine::operands::{Operand, Symbols};
+use affine::{Made, NoRow};
 use std::io;
 
-fn print_number(rt: &impl Print, z: i64) -> io::Result<()> {
-    print!(rt; " ")?;
-    if z < 0 {
-        print!(rt; "-")?;
+// What is made of a row, or of a row and itself.
+#[derive(Clone, Copy, Debug, PartialEq, Eq)]
+enum Step {
+    Square,
+    Reciprocal,
+    Root,
+}
+
+// The number of a refusal (manual, section 6).
+fn number(no_row: NoRow) -> u64 {
+    match no_row {
+        NoRow::SpanPassed => 6,
+        NoRow::ZeroInRange => 7,
+        NoRow::NoRoot => 12,
     }
-    print!(rt; "{}", integer::magnitude::absolute(z))
 }
 
 fn print_numbers(rt: &impl Print, numbers: &[i64]) -> io::Result<()> {
-    let mut i: usize = 0;
-    while i < numbers.len() {
-        let v = numbers[i];
-        print_number(rt, v)?;
-        i += 1;
+    for v in numbers {
+        print!(rt; " {v}")?;
     }
     Ok(())
 }
 
-fn print_row(rt: &impl Print, row: Row, range: Range) -> io::Result<()> {
-    print_number(rt, row.centre)?;
-    print_numbers(rt, &row.linear)?;
-    print_numbers(rt, &row.pair)?;
-    print_number(rt, range.low)?;
-    print_number(rt, range.high)
-}
-
-fn print_refused(rt: &impl Print, number: i64) -> io::Result<()> {
-    print!(rt; " refused")?;
-    print_number(rt, number)
-}
-
-fn print_example(rt: &impl Print, label: &[u8], answer: Answer) -> io::Result<()> {
-    rt.write_all(label)?;
-    let status = answer.status;
-    let row = answer.row;
-    let range = answer.range;
-    match status {
-        Status::Accepted => print_row(rt, row, range),
-        Status::SpanPassed => print_refused(rt, 6),
-        Status::ZeroInRange => print_refused(rt, 7),
-        Status::NoRoot => print_refused(rt, 12),
-    }?;
-    print!(rt; "\n")
+fn print_example(rt: &impl Print, label: &str, made: Result<Made, NoRow>) -> io::Result<()> {
+    print!(rt; "{label}")?;
+    match made {
+        Ok(made) => {
+            print!(rt; " {}", made.row.centre)?;
+            print_numbers(rt, &made.row.linear)?;
+            print_numbers(rt, &made.row.pair)?;
+            println!(rt; " {} {}", made.range.low, made.range.high)
+        }
+        Err(no_row) => println!(rt; " refused {}", number(no_row)),
+    }
 }
 
 // A constant, which may be an operand of any row.
-fn constant(value: i64) -> Answer
-    ensures { (own : ℕ) → Operand own result }
+fn constant(value: i64) -> Result<Made, NoRow>
+    ensures { IfOk result (λ made. (own : ℕ) → OperandOf own made) }
 {
     affine::steps::constant(value)
 }
 
 // The input is row 1, and may be an operand of any later one.
-fn input(low: i64, high: i64) -> Answer
+fn input(low: i64, high: i64) -> Result<Made, NoRow>
     requires { (nat_abs low ≤ span_limit) × (nat_abs high ≤ span_limit) × (low ≤ℤ high) }
-    ensures { Operand 1 result }
+    ensures { IfOk result (λ made. OperandOf 1 made) }
 {
     affine::steps::input(0, low, high)
 }
 
-fn print_product(
-    rt: &impl Print,
-    label: &[u8],
-    x: Answer,
-    y: Answer,
-    squares: usize,
-    own: usize,
-) -> io::Result<()>
-    requires { Operand own x × Operand own y × (squares ≤ paired) × (own < symbols) }
+fn operand(made: Made) -> Operand
+    requires { (own : ℕ) × OperandOf own made }
+    ensures { result.row ≡ made.row }
 {
-    let first = x.row;
-    let second = y.row;
-    print_example(
-        rt,
-        label,
-        affine::product::multiply(first, x.radius, second, y.radius, squares, own),
-    )
+    Operand {
+        row: made.row,
+        radius: made.radius,
+    }
 }
 
-fn print_reciprocal(
-    rt: &impl Print,
-    label: &[u8],
-    x: Answer,
-    squares: usize,
-    own: usize,
-) -> io::Result<()>
-    requires { Operand own x × (squares ≤ paired) × (own < symbols) }
+fn product(x: Made, y: Made, symbols: Symbols) -> Result<Made, NoRow>
+    requires { OperandOf symbols.own x × OperandOf symbols.own y }
 {
-    let row = x.row;
-    let range = x.range;
-    print_example(
-        rt,
-        label,
-        affine::reciprocal::invert(row, x.radius, range, squares, own),
-    )
+    affine::product::multiply(operand(x), operand(y), symbols)
 }
 
-fn print_root(
-    rt: &impl Print,
-    label: &[u8],
-    x: Answer,
-    squares: usize,
-    own: usize,
-) -> io::Result<()>
-    requires { Operand own x × (squares ≤ paired) × (own < symbols) }
+fn take(step: Step, x: Made, symbols: Symbols) -> Result<Made, NoRow>
+    requires { OperandOf symbols.own x }
 {
-    let row = x.row;
-    let range = x.range;
-    print_example(rt, label, affine::root::take_root(row, range, squares, own))
+    match step {
+        Step::Square => product(x, x, symbols),
+        Step::Reciprocal => affine::reciprocal::invert(operand(x), x.range, symbols),
+        Step::Root => affine::root::take_root(x.row, x.range, symbols),
+    }
 }
 
 // Behind an input come the constants, rows 2 and 3: the product is row 4.
-fn product_of_constants(rt: &impl Print, label: &[u8], first: i64, second: i64) -> io::Result<()> {
-    let x = constant(first);
-    let y = constant(second);
-    print_product(rt, label, x, y, 0, 3)
+fn product_of_constants(first: i64, second: i64) -> Result<Made, NoRow> {
+    let x = constant(first)?;
+    let y = constant(second)?;
+    product(x, y, Symbols { squares: 0, own: 3 })
 }
 
-// Behind an input comes the constant, row 2: the reciprocal is row 3.
-fn reciprocal_of_constant(rt: &impl Print, label: &[u8], value: i64) -> io::Result<()> {
-    print_reciprocal(rt, label, constant(value), 0, 2)
+// Behind an input comes the constant, row 2: what is made of it is row 3.
+fn of_constant(step: Step, value: i64) -> Result<Made, NoRow> {
+    let x = constant(value)?;
+    take(step, x, Symbols { squares: 0, own: 2 })
 }
 
-// Behind an input comes the constant, row 2: the root is row 3.
-fn root_of_constant(rt: &impl Print, label: &[u8], value: i64) -> io::Result<()> {
-    print_root(rt, label, constant(value), 0, 2)
-}
-
-// The product of an input with itself is row 2.
-fn square_of_input(
-    rt: &impl Print,
-    label: &[u8],
-    low: i64,
-    high: i64,
-    squares: usize,
-) -> io::Result<()>
+// What is made of an input is row 2.
+fn of_input(step: Step, low: i64, high: i64, squares: usize) -> Result<Made, NoRow>
     requires { (nat_abs low ≤ span_limit) × (nat_abs high ≤ span_limit) × (low ≤ℤ high) × (squares ≤ paired) }
 {
-    let x = input(low, high);
-    print_product(rt, label, x, x, squares, 1)
-}
-
-// The reciprocal of an input is row 2.
-fn reciprocal_of_input(
-    rt: &impl Print,
-    label: &[u8],
-    low: i64,
-    high: i64,
-    squares: usize,
-) -> io::Result<()>
-    requires { (nat_abs low ≤ span_limit) × (nat_abs high ≤ span_limit) × (low ≤ℤ high) × (squares ≤ paired) }
-{
-    print_reciprocal(rt, label, input(low, high), squares, 1)
-}
-
-// The root of an input is row 2.
-fn root_of_input(
-    rt: &impl Print,
-    label: &[u8],
-    low: i64,
-    high: i64,
-    squares: usize,
-) -> io::Result<()>
-    requires { (nat_abs low ≤ span_limit) × (nat_abs high ≤ span_limit) × (low ≤ℤ high) × (squares ≤ paired) }
-{
-    print_root(rt, label, input(low, high), squares, 1)
+    let x = input(low, high)?;
+    take(step, x, Symbols { squares, own: 1 })
 }
 
 fn main(rt: HostRuntime) -> io::Result<()> {
-    print_example(&rt, b"P1", input(0, 1))?;
-    print_example(&rt, b"P2", input(-1, 0))?;
-    product_of_constants(&rt, b"P3", 1, 1)?;
-    product_of_constants(&rt, b"P4", -1, 1)?;
-    reciprocal_of_constant(&rt, b"P5", 8192)?;
-    reciprocal_of_constant(&rt, b"P6", 12288)?;
-    reciprocal_of_constant(&rt, b"P7", -12288)?;
-    square_of_input(&rt, b"P8", 4096, 8192, 1)?;
-    square_of_input(&rt, b"P9", 4096, 8192, 0)?;
-    reciprocal_of_input(&rt, b"P10", 4096, 8192, 1)?;
-    reciprocal_of_input(&rt, b"P11", 4096, 8192, 0)?;
-    reciprocal_of_input(&rt, b"P12a", 1, 2, 0)?;
-    reciprocal_of_input(&rt, b"P12b", 1, 3, 0)?;
-    product_of_constants(&rt, b"P13a", 268435456, 16384)?;
-    product_of_constants(&rt, b"P13b", 268435456, 16385)?;
-    root_of_constant(&rt, b"R1", 4096)?;
-    root_of_constant(&rt, b"R2", 2)?;
-    root_of_input(&rt, b"R3", 4096, 8192, 1)?;
-    root_of_input(&rt, b"R4", 4096, 8192, 0)?;
-    root_of_input(&rt, b"R5", 0, 5, 0)?;
-    root_of_input(&rt, b"R6", 1, 3, 0)?;
-    product_of_constants(&rt, b"N1", 2047, 1)?;
-    product_of_constants(&rt, b"N2", 2048, 1)?;
-    product_of_constants(&rt, b"N3", -2048, 1)?;
-    product_of_constants(&rt, b"N4", -2049, 1)?;
-    square_of_input(&rt, b"N5", 0, 64, 1)
+    print_example(&rt, "P1", input(0, 1))?;
+    print_example(&rt, "P2", input(-1, 0))?;
+    print_example(&rt, "P3", product_of_constants(1, 1))?;
+    print_example(&rt, "P4", product_of_constants(-1, 1))?;
+    print_example(&rt, "P5", of_constant(Step::Reciprocal, 8192))?;
+    print_example(&rt, "P6", of_constant(Step::Reciprocal, 12288))?;
+    print_example(&rt, "P7", of_constant(Step::Reciprocal, -12288))?;
+    print_example(&rt, "P8", of_input(Step::Square, 4096, 8192, 1))?;
+    print_example(&rt, "P9", of_input(Step::Square, 4096, 8192, 0))?;
+    print_example(&rt, "P10", of_input(Step::Reciprocal, 4096, 8192, 1))?;
+    print_example(&rt, "P11", of_input(Step::Reciprocal, 4096, 8192, 0))?;
+    print_example(&rt, "P12a", of_input(Step::Reciprocal, 1, 2, 0))?;
+    print_example(&rt, "P12b", of_input(Step::Reciprocal, 1, 3, 0))?;
+    print_example(&rt, "P13a", product_of_constants(268435456, 16384))?;
+    print_example(&rt, "P13b", product_of_constants(268435456, 16385))?;
+    print_example(&rt, "R1", of_constant(Step::Root, 4096))?;
+    print_example(&rt, "R2", of_constant(Step::Root, 2))?;
+    print_example(&rt, "R3", of_input(Step::Root, 4096, 8192, 1))?;
+    print_example(&rt, "R4", of_input(Step::Root, 4096, 8192, 0))?;
+    print_example(&rt, "R5", of_input(Step::Root, 0, 5, 0))?;
+    print_example(&rt, "R6", of_input(Step::Root, 1, 3, 0))?;
+    print_example(&rt, "N1", product_of_constants(2047, 1))?;
+    print_example(&rt, "N2", product_of_constants(2048, 1))?;
+    print_example(&rt, "N3", product_of_constants(-2048, 1))?;
+    print_example(&rt, "N4", product_of_constants(-2049, 1))?;
+    print_example(&rt, "N5", of_input(Step::Square, 0, 64, 1))
 }

@@ -11,7 +11,7 @@ use Rattle.sheet.specs.Lines.{natural, line_of, lines_left, numbers, ends_at, st
 use Rattle.sheet.specs.Tests.{fault, counts_pass, ends_pass, step_passes}
 use Rattle.sheet.specs.Writing.{fault_at, test_lines, test_of}
 use Rattle.sheet.specs.declared.Schedule.{Schedule}
-use Rattle.sheet.specs.declared.Refusal.{Refusal}
+use Rattle.sheet.specs.Answers.{Refusal}
 use Rattle.sheet.proofs.LineKinds.{is_step_names, ends_line_is, step_line_is}
 
 -- several lines in two blocks: the second counts where the first has no fault

@@ -14,7 +14,7 @@ use Rattle.sheet.specs.Text.{texts}
 use Rattle.sheet.specs.Writing.{text_at, lines_text}
 use Rattle.sheet.specs.declared.Schedule.{Schedule}
 use Rattle.sheet.specs.declared.Line.TheVariants.{CountNames, CountLine}
-use Rattle.sheet.specs.declared.reader.Part.{Part}
+use Rattle.sheet.specs.Answers.{Part}
 use Rattle.sheet.proofs.Choice.{pick_elim}
 use Rattle.sheet.proofs.FieldLine.{behind, none}
 use Rattle.sheet.proofs.LineKinds.{SameCounts, Shape, shape_store, numbers_stored, names_store, names_fault, numbers_width}

@@ -1,14 +1,16 @@
 -- Runs of digits: what one byte more does to a run, and where a run ends.
-use mathlib.Core.Path.{◌≡◌}
+use mathlib.Core.Path.{◌≡◌, sym}
 use mathlib.Core.List.{List, [], ◌∷◌}
-use Prim.Native.Nat.{ℕ, suc, ◌+◌, ◌*◌, ◌≤◌, ◌<◌}
+use Prim.Native.Nat.{ℕ, suc, ◌+◌, ◌-◌, ◌*◌, ◌≤◌, ◌<◌}
 use native.Mathlib.Numerals.{add-one}
 use native.Mathlib.Omega.{arith}
 use native.Mathlib.Decide.{dec_lt}
-use borrow.Author.Tests.{lt-ltb, le-ltb, ltb-true}
+use borrow.Author.Tests.{lt-ltb, le-ltb, ltb-true, ltb-false}
 use lib.Dec.{ltb}
-use lib.ListN.{length, drop, get_or, drop_of_length-le, get_or-eq_default}
-use lib.Seq.{drop-cons}
+use lib.ListN.{length, take, drop, length-drop, get_or, drop_of_length-le, get_or-eq_default}
+use lib.Seq.{drop-cons, take-length, get_or-drop}
+use Rattle.std.specs.Prelude.{Option, Some, None}
+use Rattle.sheet.specs.Results.{as_digit}
 use Rattle.sheet.specs.declared.number.Run.{Run}
 use Rattle.sheet.specs.Number.{run, digit_of, run_of}
 use Rattle.sheet.proofs.Choice.{pick_elim}
@@ -56,3 +58,32 @@ inside s i b e = go (dec_lt i (length s))
     go : Dec (i < length s) → i < length s
     go (yes h) = h
     go (no h) = absurd (omega (arith, get_or-eq_default s 0 {n = i} (omega arith)))
+
+-- the bytes from a position on, as the code cuts them out
+pub rest_whole : (s : List ℕ) (at : ℕ) → take (length s - at) (drop at s) ≡ drop at s
+rest_whole s at = rw (← length-drop at s) (take-length (drop at s))
+
+pub rest_at : (s : List ℕ) (at i : ℕ) → get_or (take (length s - at) (drop at s)) i 0 ≡ get_or s (at + i) 0
+rest_at s at i = rw (rest_whole s at) (get_or-drop at s i 0)
+
+pub rest_length : (s : List ℕ) (at : ℕ) → length (take (length s - at) (drop at s)) ≡ length s - at
+rest_length s at = rw (rest_whole s at) (length-drop at s)
+
+some_one : (x y : ℕ) → Some x ≡ Some y → x ≡ y
+some_one x y e = cc
+
+none_some : (x : ℕ) → None ≡ Some x → ⊥
+none_some x e = cc
+
+-- what `digit` answers of a byte
+pub digit_some : (b d : ℕ) → Some d ≡ as_digit (digit_of b) → (digit_of b ≡ d) × (d < 10)
+digit_some b d =
+    pick_elim (λ (o : Option ℕ). Some d ≡ o → (digit_of b ≡ d) × (d < 10)) (ltb (digit_of b) 10) _ _
+    (λ h e. let same : d ≡ digit_of b = some_one d (digit_of b) e in (sym same, omega (arith, ltb-true (digit_of b) 10 h)))
+    (λ h e. absurd (none_some d (sym e)))
+
+pub digit_none : (b : ℕ) → None ≡ as_digit (digit_of b) → 10 ≤ digit_of b
+digit_none b =
+    pick_elim (λ (o : Option ℕ). None ≡ o → 10 ≤ digit_of b) (ltb (digit_of b) 10) _ _
+    (λ h e. absurd (none_some (digit_of b) e))
+    (λ h e. ltb-false (digit_of b) 10 h)

@@ -14,17 +14,9 @@ use mir.Val.{SFits}
 use Rattle.sheet.specs.Number.{field_at, digit_of}
 use Rattle.sheet.specs.Text.{numeral, end_byte, line}
 use Rattle.sheet.specs.Reading.{on_field, zeros, padded, no_fields, fields_from, fields_at}
-use Rattle.sheet.specs.declared.number.Field.{Field}
-use Rattle.sheet.specs.declared.number.Field.TheVariants.{Number, Broken}
-use Rattle.sheet.specs.declared.fields.Fields.{Fields}
+use Rattle.sheet.specs.Answers.{Field, Number, Broken, Fields}
 use Rattle.sheet.proofs.Decimal.{numeral_short}
 use Rattle.sheet.proofs.Numeral.{field_sound, field_complete}
-
-pub end_byte_last : (i k : ℕ) → k - i ≡ 1 → 10 ≡ end_byte (k - (i + 1))
-end_byte_last i k h = let e : k - (i + 1) ≡ 0 = omega arith in rw e
-
-pub end_byte_inner : (i k : ℕ) → i < k → (k - i ≡ 1 → ⊥) → 32 ≡ end_byte (k - (i + 1))
-end_byte_inner i k h f = let e : k - (i + 1) ≡ suc (k - (i + 2)) = omega arith in rw e
 
 pub end_byte_above_zero : (k : ℕ) → 0 < end_byte k
 end_byte_above_zero zero = omega arith

@@ -20,10 +20,7 @@ use Rattle.sheet.specs.Writing.{fault_at, text_at, lines_text}
 use Rattle.sheet.specs.declared.Schedule.{Schedule}
 use Rattle.sheet.specs.declared.Line.{Line}
 use Rattle.sheet.specs.declared.Line.TheVariants.{CountNames, CountLine}
-use Rattle.sheet.specs.declared.Refusal.{Refusal}
-use Rattle.sheet.specs.declared.ReadAnswer.{ReadAnswer}
-use Rattle.sheet.specs.declared.fields.Fields.{Fields}
-use Rattle.sheet.specs.declared.reader.Part.{Part}
+use Rattle.sheet.specs.Answers.{Refusal, ReadAnswer, Fields, Part}
 use Rattle.sheet.proofs.Choice.{pick_elim}
 use Rattle.sheet.proofs.Prefix.{starts_complete}
 use Rattle.sheet.proofs.FieldLine.{fields_sound, fields_complete, TenDigits, none, behind}

@@ -1,7 +1,6 @@
 -- The laws, from the number field up to the theorems. `RoundTrip` and `FirstFault` have the four theorems on sheets, `Passed` what evaluation cites;
 -- a library that writes lines of its own needs `numeral_short` (`Decimal`), `line_short` (`FieldLine`) and `wrote_then` (`Written`).
 pub mod Choice
-pub mod Signs
 pub mod Digits
 pub mod Decimal
 pub mod Numeral
@@ -11,6 +10,7 @@ pub mod Prefix
 pub mod FieldLine
 pub mod LineKinds
 pub mod LineRead
+pub mod Results
 pub mod LineTold
 pub mod Passing
 pub mod TestedLines
@@ -22,6 +22,7 @@ pub mod SheetLength
 pub mod CountsRead
 pub mod SheetWrite
 pub mod Trimmed
+pub mod SheetTold
 pub mod RoundTrip
 pub mod FirstFault
 pub mod RefusalSize

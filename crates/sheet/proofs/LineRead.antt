@@ -6,18 +6,16 @@ use Prim.Native.Nat.{ℕ, zero, suc, ◌+◌, ◌≤◌}
 use native.Mathlib.Nat.{add-zero}
 use native.Mathlib.Omega.{arith}
 use native.Mathlib.Decide.{ℕ_discrete}
-use borrow.Author.Tests.{eq-eqb, ne_eqb, eqb-true, eqb-false}
+use borrow.Author.Tests.{eq-eqb, ne_eqb, eqb-false}
 use lib.Dec.{eqb}
 use lib.ListN.{length, drop, length-drop, length-append}
 use Rattle.sheet.specs.Causes.{line_broken}
-use Rattle.sheet.specs.Lines.{natural, zero_schedule, line_at, lines_left, names, width, store}
+use Rattle.sheet.specs.Lines.{zero_schedule, lines_left, names, width, store}
 use Rattle.sheet.specs.Tests.{fault}
 use Rattle.sheet.specs.Reading.{fields_at, starts, part_read, part_refused, values_read, and_then, read_as, read_line, read_lines, read_sheet}
 use Rattle.sheet.specs.declared.Schedule.{Schedule}
 use Rattle.sheet.specs.declared.Line.{Line}
-use Rattle.sheet.specs.declared.Line.TheVariants.{CountNames, CountLine, EndNames, EndLine, StepNames, StepLine}
-use Rattle.sheet.specs.declared.fields.Fields.{Fields}
-use Rattle.sheet.specs.declared.reader.Part.{Part}
+use Rattle.sheet.specs.Answers.{Fields, Part}
 use Rattle.sheet.proofs.Choice.{pick_elim}
 use Rattle.sheet.proofs.Prefix.{starts_sound}
 use Rattle.sheet.proofs.FieldLine.{fields_at_within}
@@ -26,9 +24,6 @@ use Rattle.sheet.proofs.FieldLine.{fields_at_within}
 module _ (n : ℕ) (l : Line) (c : Schedule) (f : Fields) where
   pub values_read_lem : f.ok ≡ true → fault l f.values ≡ 0 → values_read n l c f ≡ part_read f.next (store c l f.values)
   values_read_lem o e = simp (o, eq-eqb (fault l f.values) 0 e)
-
-  pub values_broken : f.ok ≡ false → values_read n l c f ≡ part_refused (line_broken n)
-  values_broken o = simp o
 
 -- a line of either sort
 module _ (l : Line) (n : ℕ) (c : Schedule) (s : List ℕ) (at : ℕ) where
@@ -94,44 +89,6 @@ lines_split (suc j) k n c s at =
       | yes z ↦ rw m (run_more (j + k) n c s at z ∙ lines_split j k (suc n) q.schedule s q.next ∙ rw (run_more j n c s at z, i))
       | no z ↦ rw m (run_stop (j + k) n c s at z ∙ rw (run_stop j n c s at z) (simp (ne_eqb q.refusal.number 0 z)))
     ]
-
--- the lines that the counts ask for are the block of the ends and the block of the steps
-module _ (c : Schedule) (s : List ℕ) (at : ℕ) where
-  abbrev pub ends_part : Part
-  ends_part = read_lines (suc (natural c.inputs)) 3 c s at
-
-  abbrev pub steps_part : Part
-  steps_part = read_lines (suc (natural c.steps)) (4 + natural c.inputs) ends_part.schedule s ends_part.next
-
-  blocks : read_lines (lines_left c) 3 c s at ≡ and_then ends_part (λ d a. read_lines (suc (natural c.steps)) (4 + natural c.inputs) d s a)
-  blocks =
-      let m : lines_left c ≡ suc (natural c.inputs) + suc (natural c.steps) = omega arith in
-      let n : 3 + suc (natural c.inputs) ≡ 4 + natural c.inputs = omega arith in
-      rw m (lines_split (suc (natural c.inputs)) (suc (natural c.steps)) 3 c s at ∙ rw n)
-
-  pub ends_refused : (ends_part.refusal.number ≡ 0 → ⊥) → read_lines (lines_left c) 3 c s at ≡ ends_part
-  ends_refused e = blocks ∙ simp (ne_eqb ends_part.refusal.number 0 e)
-
-  pub ends_accepted : ends_part.refusal.number ≡ 0 → read_lines (lines_left c) 3 c s at ≡ steps_part
-  ends_accepted e = blocks ∙ simp (eq-eqb ends_part.refusal.number 0 e)
-
-pub lines_read : (k n : ℕ) (c : Schedule) (s : List ℕ) (at : ℕ) → at ≤ length s → (read_lines k n c s at).refusal.number ≡ 0 → PartRead s (read_lines k n c s at)
-unfolding read_lines
-lines_read zero n c s at h = λ z. record { whole = refl; upto = h }
-lines_read (suc k) n c s at h =
-    let q : Part = read_line n c s at in
-    pick_elim (λ (p : Part). p.refusal.number ≡ 0 → PartRead s p) (eqb q.refusal.number 0) _ _
-    (λ e. lines_read k (suc n) q.schedule s q.next (line_read (line_at c n) n c s at h (eqb-true q.refusal.number 0 e)).upto)
-    (λ e z. absurd (eqb-false q.refusal.number 0 e z))
-
--- a line holds four numbers at the most
-pub width_small : (l : Line) → width l ≤ 4
-width_small CountNames = omega arith
-width_small CountLine = omega arith
-width_small EndNames = omega arith
-width_small (EndLine i) = omega arith
-width_small StepNames = omega arith
-width_small (StepLine i r) = omega arith
 
 -- the whole sheet, by the part that its first two lines make and the part that the others make
 module _ (s : List ℕ) where

@@ -7,7 +7,7 @@ use Rattle.sheet.specs.Lines.{natural, line_of, lines_left, numbers}
 use Rattle.sheet.specs.Tests.{fault}
 use Rattle.sheet.specs.Writing.{fault_at, test_of}
 use Rattle.sheet.specs.declared.Schedule.{Schedule}
-use Rattle.sheet.specs.declared.Refusal.{Refusal}
+use Rattle.sheet.specs.Answers.{Refusal}
 use Rattle.sheet.specs.declared.Line.{Line}
 use Rattle.sheet.specs.declared.Line.TheVariants.{CountLine, EndLine, StepLine}
 use Rattle.sheet.proofs.LineKinds.{Kind, end_names, end_line, step_names, step_line, kind, names_fault, ends_line_is, step_line_is}

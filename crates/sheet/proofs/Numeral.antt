@@ -16,8 +16,7 @@ use lib.ListN.{length, drop, get_or, length-append}
 use Rattle.sheet.specs.Choice.{pick}
 use Rattle.sheet.specs.Number.{digit_of, run, run_of, signed_of, judged, after_sign, field_at}
 use Rattle.sheet.specs.declared.number.Run.{Run}
-use Rattle.sheet.specs.declared.number.Field.{Field}
-use Rattle.sheet.specs.declared.number.Field.TheVariants.{Number, Broken}
+use Rattle.sheet.specs.Answers.{Field, Number, Broken}
 use Rattle.sheet.specs.Text.{decimal, numeral}
 use Rattle.sheet.proofs.Choice.{pick_elim}
 use Rattle.sheet.proofs.Digits.{run_within, inside}

@@ -15,7 +15,7 @@ use Rattle.sheet.specs.Lines.{natural, line_of, line_at, lines_left, numbers, en
 use Rattle.sheet.specs.Tests.{fault, counts_pass, ends_pass, step_passes}
 use Rattle.sheet.specs.Writing.{fault_at, test_lines, test_of}
 use Rattle.sheet.specs.declared.Schedule.{Schedule}
-use Rattle.sheet.specs.declared.Refusal.{Refusal}
+use Rattle.sheet.specs.Answers.{Refusal}
 use Rattle.sheet.specs.declared.Line.{Line}
 use Rattle.sheet.specs.declared.Line.TheVariants.{CountLine, EndLine, StepLine}
 use Rattle.sheet.proofs.Choice.{pick_elim}

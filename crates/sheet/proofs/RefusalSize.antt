@@ -15,10 +15,8 @@ use Rattle.sheet.specs.Reading.{starts, fields_at, read_as, read_line, read_line
 use Rattle.sheet.specs.Writing.{fault_at, test_lines, test_of}
 use Rattle.sheet.specs.declared.Line.{Line}
 use Rattle.sheet.specs.declared.Line.TheVariants.{CountNames, CountLine, EndNames, EndLine, StepNames, StepLine}
-use Rattle.sheet.specs.declared.Refusal.{Refusal}
+use Rattle.sheet.specs.Answers.{Refusal, ReadAnswer, Part}
 use Rattle.sheet.specs.declared.Schedule.{Schedule}
-use Rattle.sheet.specs.declared.ReadAnswer.{ReadAnswer}
-use Rattle.sheet.specs.declared.reader.Part.{Part}
 use Rattle.sheet.proofs.Choice.{pick_elim}
 use Rattle.sheet.proofs.CountsRead.{first_sound}
 use Rattle.sheet.proofs.LineRead.{first_part, second_part, sheet_first, sheet_second, sheet_ends, sheet_goes_on}

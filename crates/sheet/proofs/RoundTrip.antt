@@ -19,11 +19,8 @@ use Rattle.sheet.specs.Reading.{part_read, read_lines, read_sheet, read_of, answ
 use Rattle.sheet.specs.Writing.{fault_at, test_lines, test_of, lines_text, sheet_text, write_of, left_of}
 use Rattle.sheet.specs.Same.{Same, trimmed}
 use Rattle.sheet.specs.declared.Schedule.{Schedule}
-use Rattle.sheet.specs.declared.Refusal.{Refusal}
-use Rattle.sheet.specs.declared.ReadAnswer.{ReadAnswer}
-use Rattle.sheet.specs.declared.WriteAnswer.{WriteAnswer}
+use Rattle.sheet.specs.Answers.{Refusal, ReadAnswer, WriteAnswer, Part}
 use Rattle.sheet.specs.declared.Line.TheVariants.{CountLine}
-use Rattle.sheet.specs.declared.reader.Part.{Part}
 use Rattle.sheet.proofs.Choice.{pick_elim}
 use Rattle.sheet.proofs.FieldLine.{behind}
 use Rattle.sheet.proofs.LineKinds.{kind}

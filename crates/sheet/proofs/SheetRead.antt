@@ -19,8 +19,7 @@ use Rattle.sheet.specs.Reading.{padded, fields_at, starts, part_read, read_as, r
 use Rattle.sheet.specs.Writing.{fault_at, text_at, lines_text}
 use Rattle.sheet.specs.declared.Schedule.{Schedule}
 use Rattle.sheet.specs.declared.Line.{Line}
-use Rattle.sheet.specs.declared.fields.Fields.{Fields}
-use Rattle.sheet.specs.declared.reader.Part.{Part}
+use Rattle.sheet.specs.Answers.{Fields, Part}
 use Rattle.sheet.proofs.Choice.{pick_elim}
 use Rattle.sheet.proofs.Prefix.{starts_sound, starts_complete}
 use Rattle.sheet.proofs.FieldLine.{fields_sound, fields_complete, TenDigits, behind}

@@ -1,11 +1,12 @@
 -- Writing one text behind another is writing the two joined.
 use mathlib.Core.Path.{◌≡◌, refl, sym, ◌∙◌}
-use mathlib.Core.List.{List, [], ◌∷◌, ◌++◌}
-use Prim.Native.Nat.{ℕ, suc, ◌+◌}
+use mathlib.Core.List.{List, [], ◌∷◌, ◌++◌, append_assoc}
+use Prim.Native.Nat.{ℕ, suc, ◌+◌, ◌-◌, ◌≤◌}
 use native.Mathlib.Nat.{add-zero, add-suc, suc-add}
 use native.Mathlib.Omega.{arith}
-use lib.ListN.{length, set, length-append}
-use lib.Seq.{sets}
+use lib.ListN.{length, set, take, drop, length-append}
+use lib.Seq.{sets, sets-eq, drop-drop}
+use borrow.Rule.Slice.PartMut.{put_mid}
 use Rattle.sheet.specs.Wrote.{Wrote}
 
 pub sets_append : {A : Type 0} (xs ys l : List A) (i : ℕ) → sets (sets l i xs) (i + length xs) ys ≡ sets l i (xs ++ ys)
@@ -23,3 +24,9 @@ wrote_then {a} {b} {c} {xs} {ys} {i} {j} {k} w v = record {
   ends = rw length-append (omega (arith, w.ends, v.ends));
   is = v.is ∙ rw (w.is, w.ends) (sets_append xs ys a i);
 }
+
+-- bytes put into the middle of others
+pub wrote_mid : (before t mid : List ℕ) (at : ℕ) → mid ≡ t → at + length t ≤ length before → Wrote before (put_mid at (at + length t - at) before mid) at (at + length t) t
+wrote_mid before t mid at e h =
+    let k : at + length t - at ≡ length t = omega arith in
+    record { ends = refl; is = rw (e, k, drop-drop (length t) at before) (sym (sets-eq t before at h ∙ append_assoc (take at before) t (drop (at + length t) before))) }

@@ -1,6 +1,6 @@
 -- The table of "Causes and what follows" (manual, section 6): number and place of each cause that this library tells.
 use Rattle.std.specs.Prelude.{ℕ}
-use Rattle.sheet.specs.declared.Refusal.{Refusal}
+use Rattle.sheet.specs.Answers.{Refusal}
 
 abbrev pub refusal : ℕ → ℕ → Refusal
 refusal number place = record { number = number; place = place }

@@ -1,12 +1,13 @@
 pub mod Choice
 pub mod Limits
+pub mod Answers
 pub mod Causes
 pub mod Text
 pub mod Number
 pub mod Lines
 pub mod Tests
 pub mod Reading
-pub mod LineRead
 pub mod Writing
+pub mod Results
 pub mod Wrote
 pub mod Same

@@ -2,8 +2,7 @@
 use Rattle.std.specs.Prelude.{Bool, true, false, List, [], ◌∷◌, ℕ, suc, ◌+◌, ◌-◌, ◌*◌, leb, ltb, eqb, get_or, drop, ℤ, pos, neg_ℤ}
 use Rattle.sheet.specs.Choice.{pick}
 use Rattle.sheet.specs.declared.number.Run.{Run}
-use Rattle.sheet.specs.declared.number.Field.{Field}
-use Rattle.sheet.specs.declared.number.Field.TheVariants.{Number, Broken}
+use Rattle.sheet.specs.Answers.{Field, Number, Broken}
 
 -- The digit that a byte stands for, or 10.
 abbrev pub digit_of : ℕ → ℕ

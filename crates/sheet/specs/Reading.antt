@@ -9,14 +9,9 @@ use Rattle.sheet.specs.Limits.{max_bytes}
 use Rattle.sheet.specs.Causes.{refusal, accepted, sheet_too_long, line_broken}
 use Rattle.sheet.specs.Lines.{zero_schedule, line_at, lines_left, names, width, store}
 use Rattle.sheet.specs.Tests.{fault}
-use Rattle.sheet.specs.declared.number.Field.{Field}
-use Rattle.sheet.specs.declared.number.Field.TheVariants.{Number, Broken}
+use Rattle.sheet.specs.Answers.{Field, Number, Broken, Refusal, Fields, Part, ReadAnswer}
 use Rattle.sheet.specs.declared.Schedule.{Schedule}
-use Rattle.sheet.specs.declared.Refusal.{Refusal}
 use Rattle.sheet.specs.declared.Line.{Line}
-use Rattle.sheet.specs.declared.fields.Fields.{Fields}
-use Rattle.sheet.specs.declared.reader.Part.{Part}
-use Rattle.sheet.specs.declared.ReadAnswer.{ReadAnswer}
 
 abbrev pub on_field : {A : Type 0} → Field → (ℤ → ℕ → A) → A → A
 on_field (Number v n) f b = f v n

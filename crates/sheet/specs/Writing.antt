@@ -7,8 +7,7 @@ use Rattle.sheet.specs.Causes.{refusal, accepted, bytes_too_short}
 use Rattle.sheet.specs.Lines.{line_at, lines_left, numbers, line_text}
 use Rattle.sheet.specs.Tests.{fault}
 use Rattle.sheet.specs.declared.Schedule.{Schedule}
-use Rattle.sheet.specs.declared.Refusal.{Refusal}
-use Rattle.sheet.specs.declared.WriteAnswer.{WriteAnswer}
+use Rattle.sheet.specs.Answers.{Refusal, WriteAnswer}
 
 -- The fault of text line `n` of a schedule's sheet, or 0.
 unfoldable pub fault_at : Schedule → ℕ → ℕ

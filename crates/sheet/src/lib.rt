@@ -1,24 +1,29 @@
 // Schedule sheets (manual, section 2): reading, writing, and the tests 3, 4 and 5 of a schedule that is handed over.
 #![tactic(auto)]
 
-ghost use Rattle.std.specs.Prelude.{◌≡◌};
+ghost use Rattle.std.specs.Prelude.{◌≡◌, ◌+◌, ◌<◌, ◌≤◌, get_or};
+ghost use Rattle.sheet.specs.Limits.{max_inputs, max_steps};
+ghost use Rattle.sheet.specs.Tests.{ends_pass, step_passes};
 ghost use Rattle.sheet.specs.Reading.{read_of};
 ghost use Rattle.sheet.specs.Writing.{test_of, Written};
-ghost use Rattle.sheet.specs.Lines.{zero_schedule};
+ghost use Rattle.sheet.specs.Lines.{zero_schedule, zero_end, zero_step};
+ghost use Rattle.sheet.specs.Results.{read_answer, tested, write_answer};
 
+mod causes; // causes.rt: why a call is refused
 mod number; // number.rt: a number field, read and written
 mod fields; // fields.rt: a line of fields, read and written
 mod lines; // lines.rt: what each line of a sheet holds
 mod tests; // tests.rt: the tests 3, 4 and 5 of a line's numbers, and of a schedule
-mod reader; // reader.rt: a sheet read, block by block
+mod reader; // reader.rt: a sheet read, line by line
 mod writer; // writer.rt: a schedule written, line by line
 
-// What a count is as a natural number, for the callers of `test`.
+// Why a call is refused, and what a count is as a natural number, for the callers of `test`.
+pub use causes::{Cause, Refused};
 pub use lines::natural;
 
 // Bytes, a number, a count and a line of numbers written at a position, for libraries that write lines of their own; a number field, read.
 pub use fields::{put_bytes, put_fields};
-pub use number::{Field, byte, digit, field_at, put_count, put_number};
+pub use number::{Number, byte, digit, field_at, put_count, put_number};
 
 // The limits of a sheet (manual, section 2.4); specs/Limits.antt has the same names for definitions and laws.
 pub const MAX_INPUTS: usize = 6;
@@ -34,14 +39,18 @@ pub const LAST_BINARY: i64 = 4;
 pub const LAST_CODE: i64 = 6;
 
 // The ends of an input.
-#[derive(Clone, Copy)]
+#[derive(Clone, Copy, Debug, PartialEq, Eq)]
 pub struct End {
     pub low: i64,
     pub high: i64,
 }
 
-// A step: its code, the rows that it names, and a constant.
-#[derive(Clone, Copy)]
+impl End {
+    const ZERO: End = End { low: 0, high: 0 };
+}
+
+// A step: its code, the rows that it names, and a constant. The code is a number and no enum: any schedule may be handed over, and is tested.
+#[derive(Clone, Copy, Debug, PartialEq, Eq)]
 pub struct Step {
     pub code: i64,
     pub first: i64,
@@ -49,8 +58,17 @@ pub struct Step {
     pub value: i64,
 }
 
+impl Step {
+    const ZERO: Step = Step {
+        code: 0,
+        first: 0,
+        second: 0,
+        value: 0,
+    };
+}
+
 // A schedule: its counts, and with room for all that the limits allow the ends of its inputs and its steps.
-#[derive(Clone, Copy)]
+#[derive(Clone, Copy, Debug, PartialEq, Eq)]
 pub struct Schedule {
     pub inputs: i64,
     pub squares: i64,
@@ -59,29 +77,8 @@ pub struct Schedule {
     pub step: [Step; MAX_STEPS],
 }
 
-// Number and place of a refusal (manual, section 6); both 0 for an accepted call.
-#[derive(Clone, Copy)]
-pub struct Refusal {
-    pub number: u64,
-    pub place: usize,
-}
-
-// What reading answers; a schedule of zeros beside a refusal.
-#[derive(Clone, Copy)]
-pub struct ReadAnswer {
-    pub refusal: Refusal,
-    pub schedule: Schedule,
-}
-
-// What a call that writes into lent bytes answers: the length of what it wrote, 0 beside a refusal.
-#[derive(Clone, Copy)]
-pub struct WriteAnswer {
-    pub refusal: Refusal,
-    pub length: usize,
-}
-
 // What a text line is: a line of names, or one of counts, of an input's ends, of a step (its index, and how many rows are earlier).
-#[derive(Clone, Copy)]
+#[derive(Clone, Copy, Debug, PartialEq, Eq)]
 pub enum Line {
     CountNames,
     CountLine,
@@ -92,81 +89,81 @@ pub enum Line {
 }
 
 // Reads a sheet: any bytes, of any length.
-pub fn read(bytes: &[u8]) -> ReadAnswer
-    ensures { result ≡ read_of bytes.now }
+#[tactic(auto, unfolding(crate::specs::Reading::read_of))]
+pub fn read(bytes: &[u8]) -> Result<Schedule, Refused>
+    ensures { read_answer result ≡ read_of bytes.now }
 {
     if MAX_BYTES < bytes.len() {
-        return ReadAnswer {
-            refusal: Refusal {
-                number: 1,
-                place: 0,
-            },
-            schedule: zero_schedule(),
-        };
+        return Err(Refused {
+            cause: Cause::SheetTooLong,
+            place: 0,
+        });
     }
-    let p = reader::read_sheet(bytes);
-    let refusal = p.refusal;
-    let schedule = p.schedule;
-    ReadAnswer { refusal, schedule }
+    reader::read_sheet(bytes)
 }
 
 // Tests a schedule by 3, 4 and 5 as its lines would stand.
-pub fn test(schedule: Schedule) -> Refusal
-    ensures { result ≡ test_of schedule }
+pub fn test(schedule: Schedule) -> Result<(), Refused>
+    ensures { tested result ≡ test_of schedule }
 {
-    if !tests::counts_pass(schedule.inputs, schedule.squares, schedule.steps) {
-        return Refusal {
-            number: 3,
+    if !schedule.counts_pass() {
+        return Err(Refused {
+            cause: Cause::CountWrong,
             place: 2,
-        };
+        });
     }
-    let inputs = schedule.inputs as usize;
-    let ends = tests::test_ends(schedule, inputs);
-    if ends.number != 0 {
-        return ends;
-    }
-    tests::test_steps(schedule, inputs, schedule.steps as usize)
+    // block by block: over text lines, each asked for its kind as the reader asks, the test takes nearly twice as long
+    let inputs = schedule.input_count();
+    let steps = schedule.step_count();
+    let ends = &schedule.ends;
+    let step = &schedule.step;
+    tests::test_block(
+        4,
+        inputs,
+        Cause::EndWrong,
+        |i|
+            requires { i < max_inputs }
+            ensures { let e = get_or ends.entry.now i zero_end in result ≡ ends_pass e.low e.high }
+        { ends[i].passes() },
+    )?;
+    tests::test_block(
+        5 + inputs,
+        steps,
+        Cause::StepWrong,
+        |i|
+            requires { (i < max_steps) × (inputs ≤ max_inputs) }
+            ensures { let t = get_or step.entry.now i zero_step in result ≡ step_passes (inputs + i) t.code t.first t.second t.value }
+        { step[i].passes(inputs + i) },
+    )
 }
 
-// Writes the sheet of a schedule into the lent bytes, where it passes and there is room.
-pub fn write(schedule: Schedule, out: &mut [u8]) -> WriteAnswer
-    ensures { Written schedule out.old out.new result }
+// Writes the sheet of a schedule into the lent bytes, where it passes and there is room, and answers the sheet's length.
+pub fn write(schedule: Schedule, out: &mut [u8]) -> Result<usize, Refused>
+    ensures { Written schedule out.old out.new (write_answer result) }
 {
-    let refusal = test(schedule);
-    if refusal.number != 0 {
-        return WriteAnswer { refusal, length: 0 };
-    }
+    test(schedule)?;
     let mut sheet = [0u8; MAX_BYTES];
-    let n = writer::put_lines(&mut sheet, schedule, lines::lines_left(schedule) + 2);
+    let n = writer::put_lines(&mut sheet, &schedule, schedule.lines_left() + 2);
     if out.len() < n {
-        return WriteAnswer {
-            refusal: Refusal {
-                number: 8,
-                place: 0,
-            },
-            length: 0,
-        };
+        return Err(Refused {
+            cause: Cause::RoomTooShort,
+            place: 0,
+        });
     }
-    fields::put_bytes(out, 0, &sheet[0..n]);
-    WriteAnswer { refusal, length: n }
+    fields::put_bytes(out, 0, &sheet[..n]);
+    Ok(n)
 }
 
 // A schedule of zeros.
+#[tactic(auto, unfolding(crate::specs::Lines::zero_schedule))]
 pub fn zero_schedule() -> Schedule
     ensures { result ≡ zero_schedule }
 {
-    let e = End { low: 0, high: 0 };
-    let t = Step {
-        code: 0,
-        first: 0,
-        second: 0,
-        value: 0,
-    };
     Schedule {
         inputs: 0,
         squares: 0,
         steps: 0,
-        ends: [e; MAX_INPUTS],
-        step: [t; MAX_STEPS],
+        ends: [End::ZERO; MAX_INPUTS],
+        step: [Step::ZERO; MAX_STEPS],
     }
 }

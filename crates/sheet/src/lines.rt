@@ -9,133 +9,160 @@ use crate::{End, Line, MAX_INPUTS, MAX_STEPS, Schedule, Step};
 pub fn natural(z: i64) -> usize
     ensures { result ≡ Spec.natural z }
 {
-    if z < 0 { 0 } else { z as usize }
+    usize::try_from(z).unwrap_or(0)
 }
 
 // What text line n, from 1, of a sheet with so many inputs is.
-pub fn line_of(inputs: usize, n: usize) -> Line
+#[tactic(auto, unfolding(crate::specs::Lines::line_of))]
+fn line_of(inputs: usize, n: usize) -> Line
     ensures { result ≡ Spec.line_of inputs n }
 {
-    if n <= 1 {
-        return Line::CountNames;
-    }
-    if n == 2 {
-        return Line::CountLine;
-    }
-    if n == 3 {
-        return Line::EndNames;
-    }
-    if n - 4 < inputs {
-        return Line::EndLine(n - 4);
-    }
-    if n - 4 == inputs {
-        return Line::StepNames;
-    }
-    Line::StepLine(n - 5 - inputs, n - 5)
-}
-
-// How many text lines follow the first two.
-pub fn lines_left(c: Schedule) -> usize
-    requires { Spec.lines_left c < 2 ^ 63 }
-    ensures { result ≡ Spec.lines_left c }
-{
-    natural(c.inputs) + natural(c.steps) + 2
-}
-
-// How many numbers a line holds.
-pub fn width(l: Line) -> usize
-    ensures { result ≡ Spec.width l }
-{
-    match l {
-        Line::CountNames => 0,
-        Line::CountLine => 3,
-        Line::EndNames => 0,
-        Line::EndLine(_) => 2,
-        Line::StepNames => 0,
-        Line::StepLine(_, _) => 4,
+    match n {
+        0 | 1 => Line::CountNames,
+        2 => Line::CountLine,
+        3 => Line::EndNames,
+        _ if n - 4 < inputs => Line::EndLine(n - 4),
+        _ if n - 4 == inputs => Line::StepNames,
+        _ => Line::StepLine(n - 5 - inputs, n - 5),
     }
 }
 
-// The ends of input i, zeros beyond the room for inputs.
-fn ends_at(c: Schedule, i: usize) -> End
-    ensures { result ≡ Spec.ends_at c i }
-{
-    if i < MAX_INPUTS {
-        c.ends[i]
-    } else {
-        End { low: 0, high: 0 }
+impl Line {
+    // How many numbers a line holds.
+    pub(crate) fn width(self) -> usize
+        ensures { result ≡ Spec.width self }
+    {
+        match self {
+            Line::CountLine => 3,
+            Line::EndLine(_) => 2,
+            Line::StepLine(_, _) => 4,
+            _ => 0,
+        }
     }
-}
 
-// Step i, zeros beyond the room for steps.
-fn step_at(c: Schedule, i: usize) -> Step
-    ensures { result ≡ Spec.step_at c i }
-{
-    if i < MAX_STEPS {
-        c.step[i]
-    } else {
-        Step {
-            code: 0,
-            first: 0,
-            second: 0,
-            value: 0,
+    // The names of a line of names, with their line end.
+    pub(crate) fn names(self) -> &'static [u8]
+        ensures { result.now ≡ Spec.names self }
+    {
+        match self {
+            Line::CountNames => b"inputs squares steps\n",
+            Line::EndNames => b"low high\n",
+            Line::StepNames => b"step first second value\n",
+            _ => b"",
         }
     }
 }
 
-// The numbers that a line of the schedule's sheet holds, and zeros behind them.
-pub fn numbers(c: Schedule, l: Line) -> [i64; 4]
-    ensures { result ≡ padded (Spec.numbers c l) }
-{
-    match l {
-        Line::CountNames => [0, 0, 0, 0],
-        Line::CountLine => [c.inputs, c.squares, c.steps, 0],
-        Line::EndNames => [0, 0, 0, 0],
-        Line::EndLine(i) => {
-            let e = ends_at(c, i);
-            [e.low, e.high, 0, 0]
-        }
-        Line::StepNames => [0, 0, 0, 0],
-        Line::StepLine(i, _) => {
-            let t = step_at(c, i);
-            [t.code, t.first, t.second, t.value]
+impl Schedule {
+    // How many inputs there are, and how many steps.
+    pub(crate) fn input_count(&self) -> usize
+        ensures { result ≡ Spec.natural self.now.inputs }
+    {
+        natural(self.inputs)
+    }
+
+    pub(crate) fn step_count(&self) -> usize
+        ensures { result ≡ Spec.natural self.now.steps }
+    {
+        natural(self.steps)
+    }
+
+    // What text line n, from 1, of the schedule's sheet is.
+    pub(crate) fn line_at(&self, n: usize) -> Line
+        ensures { result ≡ Spec.line_at self.now n }
+    {
+        line_of(self.input_count(), n)
+    }
+
+    // How many text lines follow the first two.
+    pub(crate) fn lines_left(&self) -> usize
+        requires { Spec.lines_left self.now < 2 ^ 63 }
+        ensures { result ≡ Spec.lines_left self.now }
+    {
+        self.input_count() + self.step_count() + 2
+    }
+
+    // The ends of input i, zeros beyond the room for inputs.
+    pub(crate) fn ends_at(&self, i: usize) -> &End
+        ensures { result.now ≡ Spec.ends_at self.now i }
+    {
+        self.ends.get(i).unwrap_or(&End::ZERO)
+    }
+
+    // Step i, zeros beyond the room for steps.
+    pub(crate) fn step_at(&self, i: usize) -> &Step
+        ensures { result.now ≡ Spec.step_at self.now i }
+    {
+        self.step.get(i).unwrap_or(&Step::ZERO)
+    }
+
+    // The numbers that a line of the schedule's sheet holds, and zeros behind them.
+    #[tactic(auto, unfolding(crate::specs::Lines::numbers))]
+    pub(crate) fn numbers(&self, l: Line) -> [i64; 4]
+        ensures { result ≡ padded (Spec.numbers self.now l) }
+    {
+        match l {
+            Line::CountLine => [self.inputs, self.squares, self.steps, 0],
+            Line::EndLine(i) => {
+                let e = self.ends_at(i);
+                [e.low, e.high, 0, 0]
+            }
+            Line::StepLine(i, _) => {
+                let t = self.step_at(i);
+                [t.code, t.first, t.second, t.value]
+            }
+            _ => [0; 4],
         }
     }
-}
 
-// The schedule with other counts.
-pub fn with_counts(c: Schedule, v: [i64; 4]) -> Schedule
-    ensures { result ≡ Spec.with_counts c v }
-{
-    let ends = c.ends;
-    let step = c.step;
-    Schedule {
-        inputs: v[0],
-        squares: v[1],
-        steps: v[2],
-        ends,
-        step,
+    // Puts the numbers of a line in their place.
+    #[tactic(auto, unfolding(crate::specs::Lines::store))]
+    pub(crate) fn store(&mut self, l: Line, v: [i64; 4])
+        ensures { self.new ≡ Spec.store self.old l v }
+    {
+        match l {
+            Line::CountLine => {
+                self.inputs = v[0];
+                self.squares = v[1];
+                self.steps = v[2];
+            }
+            // an index: with `get_mut` the proof stays open
+            Line::EndLine(i) => {
+                if i < MAX_INPUTS {
+                    self.ends[i] = End::from(v);
+                }
+            }
+            Line::StepLine(i, _) => {
+                if i < MAX_STEPS {
+                    self.step[i] = Step::from(v);
+                }
+            }
+            _ => {}
+        }
     }
 }
 
 // The ends that a line's numbers are.
-pub fn ends_of(v: [i64; 4]) -> End
-    ensures { result ≡ Spec.ends_of v }
-{
-    End {
-        low: v[0],
-        high: v[1],
+impl From<[i64; 4]> for End {
+    ghost from_gives = { λ v e. e ≡ Spec.ends_of v };
+
+    fn from(v: [i64; 4]) -> End {
+        let [low, high, _, _] = v;
+        End { low, high }
     }
 }
 
 // The step that a line's numbers are.
-pub fn step_of(v: [i64; 4]) -> Step
-    ensures { result ≡ Spec.step_of v }
-{
-    Step {
-        code: v[0],
-        first: v[1],
-        second: v[2],
-        value: v[3],
+impl From<[i64; 4]> for Step {
+    ghost from_gives = { λ v t. t ≡ Spec.step_of v };
+
+    fn from(v: [i64; 4]) -> Step {
+        let [code, first, second, value] = v;
+        Step {
+            code,
+            first,
+            second,
+            value,
+        }
     }
 }

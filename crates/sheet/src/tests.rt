@@ -1,157 +1,134 @@
 // The tests 3, 4 and 5, of a line's numbers and of a schedule that is handed over.
-ghost use Rattle.std.specs.Prelude.{◌≡◌, ◌+◌, ◌≤◌};
-ghost use Rattle.sheet.specs.Limits.{max_inputs, max_steps};
-ghost use Rattle.sheet.specs.Lines.{natural};
+ghost use Rattle.std.specs.Prelude.{◌≡◌, ℕ, ◌+◌, ◌<◌, ◌^◌, true, false, OnOk, IfErr};
+ghost use Rattle.sheet.specs.Choice.{pick};
 ghost use Rattle.sheet.specs.Tests as Spec;
-ghost use Rattle.sheet.specs.Writing.{test_lines};
+ghost use Rattle.sheet.specs.Results.{fault_of, number};
 
 use crate::{
-    END_LIMIT, End, LAST_BINARY, LAST_CODE, Line, MAX_INPUTS, MAX_STEPS, Refusal, Schedule, Step,
-    lines,
+    Cause, END_LIMIT, End, LAST_BINARY, LAST_CODE, Line, MAX_INPUTS, MAX_STEPS, Refused, Schedule,
+    Step,
 };
 
 // Whether z lies from a to b.
 fn between(a: i64, z: i64, b: i64) -> bool
     ensures { result ≡ Spec.between a z b }
 {
-    if a <= z { z <= b } else { false }
+    (a..=b).contains(&z)
 }
 
 fn within_limit(z: i64) -> bool
     ensures { result ≡ Spec.within_limit z }
 {
-    between(0 - END_LIMIT, z, END_LIMIT)
+    between(-END_LIMIT, z, END_LIMIT)
 }
 
 // Whether counts stand within their limits.
-pub fn counts_pass(inputs: i64, squares: i64, steps: i64) -> bool
+#[tactic(auto, unfolding(crate::specs::Tests::counts_pass))]
+fn counts_pass(inputs: i64, squares: i64, steps: i64) -> bool
     ensures { result ≡ Spec.counts_pass inputs squares steps }
 {
-    if between(1, inputs, MAX_INPUTS as i64) {
-        if between(0, squares, inputs) {
-            return between(1, steps, MAX_STEPS as i64);
-        }
-    }
-    false
+    between(1, inputs, MAX_INPUTS as i64)
+        && between(0, squares, inputs)
+        && between(1, steps, MAX_STEPS as i64)
 }
 
-// Whether the ends of an input are within their limits and in order.
-fn ends_pass(e: End) -> bool
-    ensures { result ≡ Spec.ends_pass e.low e.high }
-{
-    if within_limit(e.low) {
-        if within_limit(e.high) {
-            return e.low <= e.high;
-        }
+impl Schedule {
+    // Whether the schedule's counts stand within their limits.
+    pub(crate) fn counts_pass(&self) -> bool
+        ensures { result ≡ Spec.counts_pass self.now.inputs self.now.squares self.now.steps }
+    {
+        counts_pass(self.inputs, self.squares, self.steps)
     }
-    false
+}
+
+impl End {
+    // Whether the ends of an input are within their limits and in order.
+    #[tactic(auto, unfolding(crate::specs::Tests::ends_pass))]
+    pub(crate) fn passes(&self) -> bool
+        ensures { result ≡ Spec.ends_pass self.now.low self.now.high }
+    {
+        within_limit(self.low) && within_limit(self.high) && self.low <= self.high
+    }
 }
 
 // Whether z names one of the rows 1 to earlier.
 fn names_row(earlier: usize, z: i64) -> bool
     ensures { result ≡ Spec.names_row earlier z }
 {
-    if 1 <= z {
-        lines::natural(z) <= earlier
-    } else {
-        false
-    }
+    1 <= z && z as usize <= earlier
 }
 
 // Whether a row field is right: it names an earlier row if it is used, and is 0 otherwise.
 fn row_passes(used: bool, earlier: usize, z: i64) -> bool
     ensures { result ≡ Spec.row_passes used earlier z }
 {
-    if used {
-        names_row(earlier, z)
-    } else {
-        between(0, z, 0)
-    }
+    if used { names_row(earlier, z) } else { z == 0 }
 }
 
 // Whether a value field is right: a constant within the limits if it is used, and 0 otherwise.
 fn value_passes(used: bool, z: i64) -> bool
     ensures { result ≡ Spec.value_passes used z }
 {
-    if used {
-        within_limit(z)
-    } else {
-        between(0, z, 0)
+    if used { within_limit(z) } else { z == 0 }
+}
+
+impl Step {
+    // Whether a step's fields are right where so many rows are earlier.
+    #[tactic(auto, unfolding(crate::specs::Tests::step_passes))]
+    pub(crate) fn passes(&self, earlier: usize) -> bool
+        ensures { result ≡ Spec.step_passes earlier self.now.code self.now.first self.now.second self.now.value }
+    {
+        let Step {
+            code,
+            first,
+            second,
+            value,
+        } = *self;
+        between(1, code, LAST_CODE)
+            && row_passes(2 <= code, earlier, first)
+            && row_passes(between(2, code, LAST_BINARY), earlier, second)
+            && value_passes(code <= 1, value)
     }
 }
 
-// Whether a step's fields are right where so many rows are earlier.
-fn step_passes(earlier: usize, t: Step) -> bool
-    ensures { result ≡ Spec.step_passes earlier t.code t.first t.second t.value }
-{
-    if between(1, t.code, LAST_CODE) {
-        if row_passes(2 <= t.code, earlier, t.first) {
-            if row_passes(between(2, t.code, LAST_BINARY), earlier, t.second) {
-                return value_passes(t.code <= 1, t.value);
-            }
-        }
-    }
-    false
-}
-
-// The cause for which the numbers of a line are refused, or 0.
-pub fn fault(l: Line, v: [i64; 4]) -> u64
-    ensures { result ≡ Spec.fault l v }
+// Tests the numbers of a line.
+#[tactic(auto, unfolding(crate::specs::Tests::fault))]
+pub fn test_line(l: Line, v: [i64; 4]) -> Result<(), Cause>
+    ensures { fault_of result ≡ Spec.fault l v }
 {
     match l {
-        Line::CountNames => 0,
-        Line::CountLine => if counts_pass(v[0], v[1], v[2]) { 0 } else { 3 },
-        Line::EndNames => 0,
-        Line::EndLine(_) => if ends_pass(lines::ends_of(v)) { 0 } else { 4 },
-        Line::StepNames => 0,
-        Line::StepLine(_, earlier) => if step_passes(earlier, lines::step_of(v)) {
-            0
-        } else {
-            5
-        },
+        Line::CountLine => passes_or(counts_pass(v[0], v[1], v[2]), Cause::CountWrong),
+        Line::EndLine(_) => passes_or(End::from(v).passes(), Cause::EndWrong),
+        Line::StepLine(_, earlier) => passes_or(Step::from(v).passes(earlier), Cause::StepWrong),
+        _ => Ok(()),
     }
 }
 
-// The first input of a schedule whose ends are refused.
-pub fn test_ends(c: Schedule, inputs: usize) -> Refusal
-    requires { (inputs ≡ natural c.inputs) × (inputs ≤ max_inputs) }
-    ensures { result ≡ test_lines inputs 4 c }
+fn passes_or(passes: bool, cause: Cause) -> Result<(), Cause>
+    ensures { fault_of result ≡ pick passes 0 (number cause) }
 {
-    let mut i = 0;
-    while i < inputs {
-        let e = c.ends[i];
-        if !ends_pass(e) {
-            return Refusal {
-                number: 4,
-                place: 4 + i,
-            };
-        }
-        i += 1;
-    }
-    Refusal {
-        number: 0,
-        place: 0,
-    }
+    if passes { Ok(()) } else { Err(cause) }
 }
 
-// The first step of a schedule that is refused.
-pub fn test_steps(c: Schedule, inputs: usize, steps: usize) -> Refusal
-    requires { (inputs ≡ natural c.inputs) × (inputs ≤ max_inputs) × (steps ≤ max_steps) }
-    ensures { result ≡ test_lines steps (5 + inputs) c }
+// Tests a block of so many lines, from text line `first` on: the first that does not pass is refused for the cause.
+pub fn test_block<F: Fn(usize) -> bool>(
+    first: usize,
+    count: usize,
+    cause: Cause,
+    passes: F,
+) -> Result<(), Refused>
+    requires room { first + count < 2 ^ 63 }
+    requires callable { (i : ℕ) → i < count → F.pre passes i }
+    ensures none_fails { OnOk result ((i : ℕ) → i < count → F.post passes i true) }
+    ensures first_fails { IfErr result (λ r. (i : ℕ) × (i < count) × (r ≡ record { cause = cause; place = first + i }) × F.post passes i false × ((k : ℕ) → k < i → F.post passes k true)) }
 {
-    let mut i = 0;
-    while i < steps {
-        let t = c.step[i];
-        if !step_passes(inputs + i, t) {
-            return Refusal {
-                number: 5,
-                place: 5 + inputs + i,
-            };
+    for i in 0..count {
+        if !passes(i) {
+            return Err(Refused {
+                cause,
+                place: first + i,
+            });
         }
-        i += 1;
     }
-    Refusal {
-        number: 0,
-        place: 0,
-    }
+    Ok(())
 }

@@ -1,51 +1,33 @@
 // A schedule written, line by line.
 ghost use Rattle.std.specs.Prelude.{◌+◌, ◌≤◌, ◌<◌, ◌^◌, length};
-ghost use Rattle.sheet.specs.Lines.{names, numbers, line_text};
+ghost use Rattle.sheet.specs.Lines.{numbers, line_text};
 ghost use Rattle.sheet.specs.Writing.{lines_text};
 ghost use Rattle.sheet.specs.Wrote.{Wrote};
 
-use crate::{Line, Schedule, fields, lines};
-
-// Writes the names of a line of names.
-fn put_names(out: &mut [u8], at: usize, l: Line) -> usize
-    requires { at + length (names l) ≤ length out.old }
-    ensures { Wrote out.old out.new at result (names l) }
-{
-    match l {
-        Line::CountNames => fields::put_bytes(out, at, b"inputs squares steps\n"),
-        Line::EndNames => fields::put_bytes(out, at, b"low high\n"),
-        Line::StepNames => fields::put_bytes(out, at, b"step first second value\n"),
-        Line::CountLine => at,
-        Line::EndLine(_) => at,
-        Line::StepLine(_, _) => at,
-    }
-}
+use crate::{Line, Schedule, fields};
 
 // Writes a line of the schedule's sheet.
-fn put_line(out: &mut [u8], at: usize, c: Schedule, l: Line) -> usize
-    requires { at + length (line_text l (numbers c l)) ≤ length out.old }
-    ensures { Wrote out.old out.new at result (line_text l (numbers c l)) }
+#[tactic(auto, using(crate::proofs::LineKinds::text_of_names, crate::proofs::LineKinds::text_of_numbers))]
+fn put_line(out: &mut [u8], at: usize, c: &Schedule, l: Line) -> usize
+    requires { at + length (line_text l (numbers c.now l)) ≤ length out.old }
+    ensures { Wrote out.old out.new at result (line_text l (numbers c.now l)) }
 {
-    let k = lines::width(l);
+    let k = l.width();
     if k == 0 {
-        put_names(out, at, l)
+        fields::put_bytes(out, at, l.names())
     } else {
-        let v = lines::numbers(c, l);
-        fields::put_fields(out, at, &v[..k])
+        fields::put_fields(out, at, &c.numbers(l)[..k])
     }
 }
 
 // Writes the first lines of the schedule's sheet, so many, from the start of the bytes on.
-pub fn put_lines(out: &mut [u8], c: Schedule, count: usize) -> usize
-    requires { (length (lines_text count 1 c) ≤ length out.old) × (count < 2 ^ 63) }
-    ensures { Wrote out.old out.new 0 result (lines_text count 1 c) }
+pub fn put_lines(out: &mut [u8], c: &Schedule, count: usize) -> usize
+    requires { (length (lines_text count 1 c.now) ≤ length out.old) × (count < 2 ^ 63) }
+    ensures { Wrote out.old out.new 0 result (lines_text count 1 c.now) }
 {
-    let inputs = lines::natural(c.inputs);
     let mut p = 0;
-    let mut i = 0;
-    while i < count {
-        p = put_line(out, p, c, lines::line_of(inputs, i + 1));
-        i += 1;
+    for n in 1..count + 1 {
+        p = put_line(out, p, c, c.line_at(n));
     }
     p
 }

@@ -1,12 +1,12 @@
 // Input and output for thin programs: a buffer filled from a reader, and bytes written to a writer. A call that a signal interrupts is made again.
 //
-// Proved: every function is safe and ends, an answer `Read(n)` counts bytes at the start of the buffer, and where there are no bytes to write the
-// answer is `Ok`. Where a reader or a writer says which bytes it has left or holds, each byte comes once and in order, and what came out is a
-// beginning of the bytes. Of the system's own streams no contract says that: there it is tested (tests/failing_calls.sh). After a failure no other
-// call is made, and the answer has the reason.
+// Proved: every function is safe and ends, an answer `Ok(n)` of `read_input` counts bytes at the start of the buffer, and where there are no bytes
+// to write the answer is `Ok`. Where a reader or a writer says which bytes it has left or holds, each byte comes once and in order, and what came
+// out is a beginning of the bytes. Of the system's own streams no contract says that: there it is tested (tests/failing_calls.sh). After a failure
+// no other call is made, and the answer has the reason.
 #![tactic(auto)]
 
-ghost use Rattle.std.specs.Prelude.{◌≡◌, ◌≤◌, false, length, IfOk, IsOk, OnOk, OnErr};
+ghost use Rattle.std.specs.Prelude.{◌≡◌, ◌≤◌, length, IsOk, OnOk, OnErr};
 ghost use Rattle.std.specs.Io.{ReadsAtMost, WritesAtMost};
 ghost use Rattle.std.specs.Io.KnownBytes.{Appends, ReadConsumes, WriteAppends};
 ghost use Rattle.streams.specs.Count.{CountsIn, ConsumesFront, AppendsBeginning};
@@ -15,37 +15,27 @@ use std::io::{Error, ErrorKind, Read, Write};
 use std::{io, str};
 
 // How often a call is made again: no run gets there, and every loop ends.
-const RETRIES: u64 = 18446744073709551615;
+const RETRIES: u64 = u64::MAX;
 
 // More bytes than an error's text has.
 const REASON_ROOM: usize = 512;
 
-// What reading the input came to: so many bytes at the start of the buffer, or a failure and its reason.
-#[derive(Clone, Copy)]
-pub enum Input {
-    Read(usize),
-    Failed(Error),
-}
-
 // Reads until buf is full or the input ends. On an empty buf it makes no call.
-pub fn read_input<R: Read>(reader: &mut R, buf: &mut [u8]) -> Input
+pub fn read_input<R: Read>(reader: &mut R, buf: &mut [u8]) -> io::Result<usize>
     ensures counts_in { CountsIn result buf.new }
     ensures buf_len_unchanged { length buf.new ≡ length buf.old }
     ensures in_order { ConsumesFront (R.remaining reader.old) (R.remaining reader.new) result buf.new }
 {
+    // a position: each read moves it by as much as it gave
     let mut done: usize = 0;
     while done < buf.len() {
-        let rest = &mut buf[done..];
-        let more = match read_some(reader, rest) {
-            Ok(more) => more,
-            Err(e) => return Input::Failed(e),
-        };
+        let more = read_some(reader, &mut buf[done..])?;
         if more == 0 {
-            return Input::Read(done);
+            return Ok(done);
         }
         done += more;
     }
-    Input::Read(done)
+    Ok(done)
 }
 
 // Writes all of the bytes, or stops at the first write that fails or takes nothing. On no bytes it makes no call and answers `Ok`; of any others the
@@ -55,13 +45,10 @@ pub fn write_all<W: Write>(writer: &mut W, bytes: &[u8]) -> io::Result<()>
     ensures whole { OnOk result (Appends (W.contents writer.old) (W.contents writer.new) bytes.now) }
     ensures beginning { OnErr result (AppendsBeginning (W.contents writer.old) (W.contents writer.new) bytes.now) }
 {
+    // a position: each write moves it by as much as it took
     let mut done: usize = 0;
     while done < bytes.len() {
-        let rest = &bytes[done..];
-        let put = match write_some(writer, rest) {
-            Ok(put) => put,
-            Err(e) => return Err(e),
-        };
+        let put = write_some(writer, &bytes[done..])?;
         if put == 0 {
             return Err(Error::from(ErrorKind::WriteZero));
         }
@@ -92,10 +79,8 @@ fn put_error(error: Error, room: &mut [u8]) -> usize
 
 // A system error's text ends in its number, ` (os error 5)`.
 fn without_number(text: &str) -> &str {
-    match text.split_once(" (os error ") {
-        Some((reason, _)) => reason,
-        None => text,
-    }
+    text.split_once(" (os error ")
+        .map_or(text, |(reason, _)| reason)
 }
 
 // A read, made again while a signal interrupts it.
@@ -104,35 +89,25 @@ fn read_some<R: Read>(reader: &mut R, buf: &mut [u8]) -> io::Result<usize>
     ensures buf_len_unchanged { length buf.new ≡ length buf.old }
     ensures bytes { ReadConsumes (R.remaining reader.old) (R.remaining reader.new) result buf.new }
 {
-    let mut got = reader.read(buf);
-    let mut again: u64 = 0;
-    while again < RETRIES && interrupted(&got) {
-        got = reader.read(buf);
-        again += 1;
+    for _ in 0..RETRIES {
+        match reader.read(buf) {
+            Err(e) if e.kind() == ErrorKind::Interrupted => {}
+            answer => return answer,
+        }
     }
-    got
+    Err(Error::from(ErrorKind::Interrupted))
 }
 
-// A write, made again while a signal interrupts it.
+// A write, made again while a signal interrupts it: not one function with `read_some`, since a closure that reads or writes tells nothing of the bytes.
 fn write_some<W: Write>(writer: &mut W, bytes: &[u8]) -> io::Result<usize>
     ensures bound { WritesAtMost result bytes.now }
     ensures bytes { WriteAppends (W.contents writer.old) (W.contents writer.new) result bytes.now }
 {
-    let mut put = writer.write(bytes);
-    let mut again: u64 = 0;
-    while again < RETRIES && interrupted(&put) {
-        put = writer.write(bytes);
-        again += 1;
+    for _ in 0..RETRIES {
+        match writer.write(bytes) {
+            Err(e) if e.kind() == ErrorKind::Interrupted => {}
+            answer => return answer,
+        }
     }
-    put
-}
-
-// Whether the call that has just answered was interrupted before it moved a byte.
-fn interrupted(answer: &io::Result<usize>) -> bool
-    ensures { IfOk answer.now (λ _. result ≡ false) }
-{
-    match answer {
-        Ok(_) => false,
-        Err(e) => e.kind() == ErrorKind::Interrupted,
-    }
+    Err(Error::from(ErrorKind::Interrupted))
 }

@@ -6,6 +6,7 @@ use Rattle.integer.proofs.Absolute.{fits_of_nat_abs}
 use Rattle.integer.proofs.Floor.{nat_abs_quotient}
 use Rattle.integer.proofs.Truncated.{floor_quotient_fits}
 use Rattle.integer_edges.proofs.print_floor.Goals as goal
+use Rattle.integer_edges.proofs.print_floor.Goals.{else-a-via-then-a+else-d, else-a-via-else-a}
 
 not_least : (a : ℤ) → FitsSigned w64 a → (of_z w64 a ≡ 2 ^ 63 → ⊥) → nat_abs a < 2 ^ 63
 not_least (pos n) f h = f.sfits
@@ -13,12 +14,12 @@ not_least (negsuc n) f h = let k : n < 2 ^ 63 = f.sfits in let l : n ≢ 2 ^ 63 
 
 pub floor_quotient-requires : goal.floor_quotient-requires
 floor_quotient-requires g c =
-    rw (to_z-of_z w64 _ c.ranges.a, to_z-of_z w64 _ c.ranges.d)
-    (λ e. c.if-d-eq0.false (ap (of_z w64) e), floor_quotient_fits c.args.a c.args.d (λ e. c.if-d-eqminus1.false (ap (of_z w64) e)) c.ranges.a)
-
-pub floor_quotient-requires-else-a-eq-LEAST : goal.floor_quotient-requires-else-a-eq-LEAST
-floor_quotient-requires-else-a-eq-LEAST g c =
-    let h = not_least c.args.a c.ranges.a c.if-a-eq-LEAST.false in
-    let k = nat_abs_quotient c.args.a c.args.d in
-    rw (to_z-of_z w64 _ c.ranges.a, to_z-of_z w64 _ c.ranges.d)
-    (λ e. c.if-d-eq0.false (ap (of_z w64) e), fits_of_nat_abs (floor_quotient c.args.a c.args.d) (omega arith))
+    let a = c.args.a in
+    let d = c.args.d in
+    let fits : FitsSigned w64 (floor_quotient a d) =
+    elim c.else-a.branch [
+      | else-a-via-then-a+else-d w ↦ floor_quotient_fits a d (λ e. w.if-d.false (ap (of_z w64) e)) c.ranges.a
+      | else-a-via-else-a w ↦ let h = not_least a c.ranges.a w.if-a.false in let k = nat_abs_quotient a d in fits_of_nat_abs (floor_quotient a d) (omega arith)
+    ]
+    in
+    rw (to_z-of_z w64 _ c.ranges.a, to_z-of_z w64 _ c.ranges.d) (λ e. c.if-d-eq0.false (ap (of_z w64) e), fits)

@@ -1,5 +1,5 @@
 -- `product` meets its contract: no product of ends wraps, nor does the greatest with its sign turned; the code chooses among them as the definition does.
-use mathlib.Core.Path.{◌≡◌, ap, ap₂, ◌∙◌}
+use mathlib.Core.Path.{◌≡◌, ap, ◌∙◌}
 use Prim.Native.Nat.{◌*◌, ◌≤◌}
 use native.Mathlib.Omega.{arith}
 use lib.IntN.{ℤ, pos, neg_ℤ, nat_abs, +ℤ_idl, ◌-ℤ◌, ◌*ℤ◌}
@@ -8,59 +8,33 @@ use mir.Val.{SFits, to_z, of_z}
 use Rattle.integer.specs.Floor.{floor_quotient}
 use Rattle.integer.proofs.Absolute.{nat_abs_neg, fits_within}
 use Rattle.integer.proofs.Floor.{nat_abs_quotient}
-use Rattle.integer.proofs.Machine.{back, back_as, operation_fits, operation_gives}
+use Rattle.integer.proofs.Machine.{back, back_as, operation_gives}
 use Rattle.affine.specs.declared.Range.{Range}
 use Rattle.affine.specs.Limits.{unit, span_limit}
-use Rattle.interval.specs.Interval.{RangeWithin, lesser, greater, least_product, greatest_product}
+use Rattle.interval.specs.Interval.{RangeWithin, least_product, greatest_product}
+use Rattle.interval.proofs.Ends.{lesser_given, greater_given}
 use Rattle.interval.proofs.Sizes.{product_fits, greatest_within}
 use Rattle.interval.proofs.product.Goals as goal
 
--- ---- a product of ends: what the machine asks, and what it gives
-record Product (a b : ℤ) : Type 0 where
-  asked : SFits w64 (to_z w64 (of_z w64 a) *ℤ to_z w64 (of_z w64 b))
-  given : to_z w64 (of_z w64 (to_z w64 (of_z w64 a) *ℤ to_z w64 (of_z w64 b))) ≡ a *ℤ b
-
-multiplied : (a b : ℤ) → nat_abs a ≤ span_limit → nat_abs b ≤ span_limit → Product a b
-multiplied a b p q =
-    let fa = fits_within a span_limit p (omega arith) in
-    let fb = fits_within b span_limit q (omega arith) in
-    record { asked = operation_fits ◌*ℤ◌ fa fb (product_fits a b p q); given = operation_gives ◌*ℤ◌ fa fb (product_fits a b p q) }
-
--- ---- the least
-pub overflow_mul-b : goal.overflow_mul-b
-overflow_mul-b c = (multiplied c.args.x.high c.args.y.low c.requires.0.high_in c.requires.1.low_in).asked
-
-pub overflow_mul-b-2 : goal.overflow_mul-b-2
-overflow_mul-b-2 c = (multiplied c.args.x.high c.args.y.high c.requires.0.high_in c.requires.1.high_in).asked
+-- ---- a product of ends, as the machine gives it
+given : (a b : ℤ) → nat_abs a ≤ span_limit → nat_abs b ≤ span_limit → to_z w64 (of_z w64 (to_z w64 (of_z w64 a) *ℤ to_z w64 (of_z w64 b))) ≡ a *ℤ b
+given a b p q = operation_gives ◌*ℤ◌ (fits_within a span_limit p (omega arith)) (fits_within b span_limit q (omega arith)) (product_fits a b p q)
 
 -- ---- the greatest
-pub overflow_mul-a-3 : goal.overflow_mul-a-3
-overflow_mul-a-3 c = (multiplied c.args.x.low c.args.y.low c.requires.0.low_in c.requires.1.low_in).asked
-
-pub overflow_mul-a-4 : goal.overflow_mul-a-4
-overflow_mul-a-4 c = (multiplied c.args.x.low c.args.y.high c.requires.0.low_in c.requires.1.high_in).asked
-
-pub overflow_mul-b-3 : goal.overflow_mul-b-3
-overflow_mul-b-3 c = (multiplied c.args.x.high c.args.y.low c.requires.0.high_in c.requires.1.low_in).asked
-
-pub overflow_mul-b-4 : goal.overflow_mul-b-4
-overflow_mul-b-4 c = (multiplied c.args.x.high c.args.y.high c.requires.0.high_in c.requires.1.high_in).asked
-
-greatest_is : (c : goal.After-floor_quotient_4096-low) → to_z w64 (of_z w64 c.greater-greatest.result) ≡ greatest_product c.args.x c.args.y
+greatest_is : (c : goal.After-floor_quotient_4096-low) → to_z w64 (of_z w64 c.max-greatest.result) ≡ greatest_product c.args.x c.args.y
 unfolding greatest_product
 greatest_is c =
     let x = c.args.x in
     let y = c.args.y in
     let r = c.requires in
-    back c.greater-greatest.type_inv
-    ∙ c.greater-greatest.ensures
-    ∙ ap₂ greater
-    (back c.greater.type_inv ∙ c.greater.ensures ∙ ap₂ greater (multiplied x.low y.low r.0.low_in r.1.low_in).given (multiplied x.low y.high r.0.low_in r.1.high_in).given)
-    (back c.greater-2.type_inv ∙ c.greater-2.ensures ∙ ap₂ greater (multiplied x.high y.low r.0.high_in r.1.low_in).given (multiplied x.high y.high r.0.high_in r.1.high_in).given)
+    back c.max-greatest.type_inv
+    ∙ greater_given c.max-greatest.ensures.value
+    (back c.max.type_inv ∙ greater_given c.max.ensures.value (given x.low y.low r.0.low_in r.1.low_in) (given x.low y.high r.0.low_in r.1.high_in))
+    (back c.max-2.type_inv ∙ greater_given c.max-2.ensures.value (given x.high y.low r.0.high_in r.1.low_in) (given x.high y.high r.0.high_in r.1.high_in))
 
 -- ---- the greatest with its sign turned
-turned : (c : goal.After-floor_quotient_4096-low) → pos 0 -ℤ to_z w64 (of_z w64 c.greater-greatest.result) ≡ neg_ℤ (greatest_product c.args.x c.args.y)
-turned c = +ℤ_idl (neg_ℤ (to_z w64 (of_z w64 c.greater-greatest.result))) ∙ ap neg_ℤ (greatest_is c)
+turned : (c : goal.After-floor_quotient_4096-low) → pos 0 -ℤ to_z w64 (of_z w64 c.max-greatest.result) ≡ neg_ℤ (greatest_product c.args.x c.args.y)
+turned c = +ℤ_idl (neg_ℤ (to_z w64 (of_z w64 c.max-greatest.result))) ∙ ap neg_ℤ (greatest_is c)
 
 turned_fits : (x y : Range) → RangeWithin span_limit x → RangeWithin span_limit y → SFits w64 (neg_ℤ (greatest_product x y))
 turned_fits x y p q = fits_within _ (span_limit * span_limit) (omega (arith, nat_abs_neg (greatest_product x y), greatest_within p q)) (omega arith)
@@ -73,7 +47,7 @@ abbrev quotient : Range → Range → ℤ
 quotient x y = floor_quotient (neg_ℤ (greatest_product x y)) (pos unit)
 
 turned_back : (c : goal.After-floor_quotient_4096-low) (q : ℤ) → to_z w64 (of_z w64 q) ≡ q
-    → q ≡ floor_quotient (to_z w64 (of_z w64 (pos 0 -ℤ to_z w64 (of_z w64 c.greater-greatest.result)))) (pos unit)
+    → q ≡ floor_quotient (to_z w64 (of_z w64 (pos 0 -ℤ to_z w64 (of_z w64 c.max-greatest.result)))) (pos unit)
     → pos 0 -ℤ to_z w64 (of_z w64 q) ≡ neg_ℤ (quotient c.args.x c.args.y)
 turned_back c q b e =
     +ℤ_idl (neg_ℤ (to_z w64 (of_z w64 q)))
@@ -99,13 +73,12 @@ returns c =
     let r = c.requires in
     let q = c.floor_quotient_4096-low in
     let h = c.floor_quotient_4096-high in
-    let least : c.lesser-least.result ≡ least_product x y =
-    c.lesser-least.ensures
-    ∙ ap₂ lesser
-    (back c.lesser.type_inv ∙ c.lesser.ensures ∙ ap₂ lesser (multiplied x.low y.low r.0.low_in r.1.low_in).given (multiplied x.low y.high r.0.low_in r.1.high_in).given)
-    (back c.lesser-2.type_inv ∙ c.lesser-2.ensures ∙ ap₂ lesser (multiplied x.high y.low r.0.high_in r.1.low_in).given (multiplied x.high y.high r.0.high_in r.1.high_in).given)
+    let least : c.min-least.result ≡ least_product x y =
+    lesser_given c.min-least.ensures.value
+    (back c.min.type_inv ∙ lesser_given c.min.ensures.value (given x.low y.low r.0.low_in r.1.low_in) (given x.low y.high r.0.low_in r.1.high_in))
+    (back c.min-2.type_inv ∙ lesser_given c.min-2.ensures.value (given x.high y.low r.0.high_in r.1.low_in) (given x.high y.high r.0.high_in r.1.high_in))
     in
     λ i. record {
-      low = (back q.type_inv ∙ q.ensures ∙ ap (λ z. floor_quotient z (pos unit)) (back c.lesser-least.type_inv ∙ least)) i;
+      low = (back q.type_inv ∙ q.ensures ∙ ap (λ z. floor_quotient z (pos unit)) (back c.min-least.type_inv ∙ least)) i;
       high = back_as (turned_back c.before h.result (back h.type_inv) h.ensures) (back_fits x y r.0 r.1) i;
     }

@@ -1,8 +1,5 @@
-use Rattle.std.proofs.Common.{◌≤◌, length}
+use Rattle.std.proofs.Common.{◌≤◌}
 use Rattle.library_calls.proofs.make_calls.Given as goal
 
-abbrev pub invariant-loop-turns : goal.invariant-loop-turns
-invariant-loop-turns g l = (l.state.numbers ≤ length l.table) × (l.state.ends ≤ length l.ranges)
-
-abbrev pub decreases-loop-turns : goal.decreases-loop-turns
-decreases-loop-turns g l = l.turns
+abbrev pub invariant-loop : goal.invariant-loop
+invariant-loop g l = record { numbers : l.state.0 ≤ 1612; ends : l.state.1.0 ≤ 70 }

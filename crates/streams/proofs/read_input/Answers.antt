@@ -13,11 +13,11 @@ filled at n k xs part p q = ap (λ m. take (m + n) (put_mid at k xs part)) (sym 
 pub loop-done-preserved : goal.loop-done-preserved
 loop-done-preserved g c =
     let part = c.read_some.ensures.buf_len_unchanged in
-    let some : c.in-Ok.more ≤ length c.loop-done.buf - c.loop-done.done = omega (arith, c.in-Ok.ensures.bound.0, length-take {A = ℕ}, length-drop {A = ℕ}) in
+    let some : c.in_ok-more.more ≤ length c.loop-done.buf - c.loop-done.done = omega (arith, c.in_ok-more.ensures.bound.0, length-take {A = ℕ}, length-drop {A = ℕ}) in
     let whole = same_len_mid _ _ _ _ part in
     record {
       in_bounds = omega arith;
       len = whole ∙ c.loop-done.invariant.len;
-      bytes = subst (Consumes _ _) (sym (filled _ _ _ c.loop-done.buf c.read_some.new.buf c.loop-done.invariant.in_bounds c.in-Ok.ensures.bound.0))
-          (Consumes-trans _ _ _ _ _ c.loop-done.invariant.bytes c.in-Ok.ensures.bytes.0);
+      bytes = subst (Consumes _ _) (sym (filled _ _ _ c.loop-done.buf c.read_some.new.buf c.loop-done.invariant.in_bounds c.in_ok-more.ensures.bound.0))
+          (Consumes-trans _ _ _ _ _ c.loop-done.invariant.bytes c.in_ok-more.ensures.bytes.0);
     }

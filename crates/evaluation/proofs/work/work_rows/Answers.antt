@@ -9,9 +9,12 @@ use lib.ListN.{length}
 use mir.Syntax.{w64}
 use mir.Val.{SFits, to_z, of_z}
 use mir.ValLaws.{to_z-of_z}
-use Rattle.affine.specs.declared.Answer.{Answer}
+use Rattle.affine.specs.Answer.{Answer}
+use Rattle.affine.specs.Told.{answer_of}
+use Rattle.std.specs.Prelude.{Ok, Err}
+use Rattle.sheet.proofs.Results.{number_some}
 use Rattle.affine.specs.Limits.{symbols}
-use Rattle.affine.specs.Steps.{number, input_answer}
+use Rattle.affine.specs.Steps.{input_answer}
 use Rattle.sheet.specs.declared.Schedule.{Schedule}
 use Rattle.sheet.specs.Causes.{refusal}
 use Rattle.sheet.specs.Lines.{natural, ends_at, step_at}
@@ -54,31 +57,32 @@ step_answered s table ranges i p f h own q =
 pub loop-i-init : goal.loop-i-init
 loop-i-init c =
     let a = c.args in
-    (omega arith, worked_none a.c a.table.now a.ranges.now, radii_none a.c _ refl)
+    (worked_none a.c a.table.now a.ranges.now, radii_none a.c _ refl)
 
-pub step_answer-a-requires-clause-rows_within : goal.step_answer-a-requires-clause-rows_within
-step_answer-a-requires-clause-rows_within c =
+pub invariant_of-earlier : goal.invariant_of-earlier
+invariant_of-earlier c =
     let p = c.requires.passed in
-    let w = c.loop-i.invariant.1 in
+    let w = c.loop-i.invariant.0 in
     let room : row_width * c.loop-i.i ≤ length c.args.table.now = omega (arith, c.requires.rows_in_bounds.0, c.loop-i-test.true) in
     let range_room : range_width * c.loop-i.i ≤ length c.args.ranges.now = omega (arith, c.requires.rows_in_bounds.1, c.loop-i-test.true) in
     let below = owned c.args.c p.0 p.1 c.loop-i-test.true in
-    (rows_within w.into room, ranges_of_lem w p.0 range_room, operands w.into c.loop-i.invariant.2 (omega (arith, below)))
+    record { within = rows_within w.into room; ranged = ranges_of_lem w p.0 range_room; summed = operands w.into c.loop-i.invariant.1 (omega (arith, below)) }
 
-pub returns-then-number-ne0 : goal.returns-then-number-ne0
-returns-then-number-ne0 c =
+pub returns-in-Err : goal.returns-in-Err
+returns-in-Err c =
     let s = c.args.c in
     let l = c.loop-i in
     let p = c.requires.passed.0 in
-    let w = l.invariant.1 in
+    let w = l.invariant.0 in
     let fit : SFits w64 s.inputs × SFits w64 s.squares = (search rules, search rules) in
-    let answer : c.if-i-inputs.a ≡ row_answer s (rows_in l.table l.i) =
+    let told : answer_of c.if-i-inputs.made ≡ row_answer s (rows_in l.table l.i) =
     elim c.if-i-inputs.branch [
-      | then-i-inputs v ↦ v.a-is ∙ input_answered s l.table l.ranges l.i p fit.0 v.if-i-inputs.true v.input-a.ensures
-      | else-i-inputs v ↦ v.a-is ∙ step_answered s l.table l.ranges l.i p fit v.if-i-inputs.false (ranges_read w) v.step_answer-a.ensures
+      | then-i-inputs v ↦ ap answer_of v.made-is ∙ input_answered s l.table l.ranges l.i p fit.0 v.if-i-inputs.true v.input-made.ensures
+      | else-i-inputs v ↦ ap answer_of v.made-is ∙ step_answered s l.table l.ranges l.i p fit v.if-i-inputs.false (ranges_read w) v.step_row-made.ensures
     ] in
-    let e = c.status_number-number.ensures in
-    let q = worked_refused w answer c.args.rows c.loop-i-test.true (λ z. omega (arith, e, z, c.if-number-ne0.true)) in
+    let answer : answer_of (Err c.in-Err.no_row) ≡ row_answer s (rows_in l.table l.i) = ap answer_of (sym c.in-Err.is) ∙ told in
+    let e = c.cause_of.ensures in
+    let q = worked_refused w answer c.args.rows c.loop-i-test.true (λ z. number_some c.cause_of.result (e ∙ z)) in
     record {
       answer = ap (λ k. refusal k (l.i + 1)) e ∙ ap (λ v. v.refusal) (sym q);
       left = w.into.left ∙ ap (λ v. table_after v.rows c.args.table.now) (sym q);
@@ -90,21 +94,18 @@ loop-i-preserved c =
     let s = c.args.c in
     let l = c.loop-i in
     let p = c.requires.passed in
-    let w = l.invariant.1 in
+    let w = l.invariant.0 in
     let fit : SFits w64 s.inputs × SFits w64 s.squares = (search rules, search rules) in
     let j = c.if-i-inputs in
-    let answer : j.a ≡ row_answer s (rows_in l.table l.i) =
+    let told : answer_of j.made ≡ row_answer s (rows_in l.table l.i) =
     elim j.branch [
-      | then-i-inputs u ↦ u.a-is ∙ input_answered s l.table l.ranges l.i p.0 fit.0 u.if-i-inputs.true u.input-a.ensures
-      | else-i-inputs u ↦ u.a-is ∙ step_answered s l.table l.ranges l.i p.0 fit u.if-i-inputs.false (ranges_read w) u.step_answer-a.ensures
+      | then-i-inputs u ↦ ap answer_of u.made-is ∙ input_answered s l.table l.ranges l.i p.0 fit.0 u.if-i-inputs.true u.input-made.ensures
+      | else-i-inputs u ↦ ap answer_of u.made-is ∙ step_answered s l.table l.ranges l.i p.0 fit u.if-i-inputs.false (ranges_read w) u.step_row-made.ensures
     ] in
-    let number_zero : number j.a.status ≡ 0 = omega (arith, c.status_number-number.ensures, c.if-number-ne0.false) in (
-      omega (arith, c.loop-i-test.true),
-      worked_on w answer number_zero c.put_row.ensures c.put_range.ensures,
-      radii_on w answer (owned s p.0 p.1 c.loop-i-test.true) l.invariant.2,
-    )
+    let answer : answer_of (Ok c.in-Ok.made) ≡ row_answer s (rows_in l.table l.i) = ap answer_of (sym c.in-Ok.is) ∙ told in
+    (worked_on w answer refl c.put_row.ensures c.put_range.ensures, radii_on w answer (owned s p.0 p.1 c.loop-i-test.true) l.invariant.1)
 
 pub returns-clause-answer : goal.returns-clause-answer
 returns-clause-answer c =
-    let all : c.loop-i.i ≡ c.args.rows = omega (arith, c.loop-i.invariant.0, c.loop-i-test.false) in
-    sym (accepted_so_far c.loop-i.invariant.1.into) ∙ ap (λ n. (worked c.args.c n).refusal) all
+    let all : c.loop-i.i ≡ c.args.rows = omega (arith, c.loop-i-test.false) in
+    sym (accepted_so_far c.loop-i.invariant.0.into) ∙ ap (λ n. (worked c.args.c n).refusal) all

@@ -1,151 +1,63 @@
 -- `chain` and `operand` read what the grammar has: what was read so far, what a sign tells, what stands in brackets.
-use borrow.Author.Rules.{rules}
-use mathlib.Core.Path.{◌≡◌, refl, sym, ap, subst, ◌∙◌}
-use mathlib.Core.Logic.{◌≢◌}
+use mathlib.Core.Path.{◌≡◌, refl, sym, ap, subst, subst₂, ◌∙◌}
+use mathlib.Core.Logic.{◌≢◌, ⊎_elim}
 use mathlib.Core.List.{List}
 use native.Mathlib.Omega.{arith}
-use lib.IntN.{ℤ}
 use lib.ListN.{length, get_or}
-use lib.Seq.{sets}
-use Prim.Native.Nat.{ℕ, suc, ◌+◌, ◌*◌, ◌-◌, ◌≤◌, ◌<◌}
-use Rattle.formulas.specs.Reading.{Open, wanting, broken, next, token_of}
+use Prim.Native.Nat.{ℕ, suc, ◌+◌, ◌-◌}
+use borrow.Author.Rules.{rules}
+use Rattle.std.specs.Prelude.{Some}
+use Rattle.std.proofs.lemmas.Result.{err_from_is_err_and}
+use Rattle.formulas.specs.Reading.{token_of}
 use Rattle.formulas.specs.Limits.{max_nesting}
-use Rattle.formulas.specs.Steps.{sign_steps, sign_count}
-use Rattle.formulas.specs.Built.{byte_sign, sign_rank, all_numbers, part_of, Right, Breaks, PartRead, Small}
+use Rattle.formulas.specs.Built.{sign_within, Right, Breaks, PartRight}
 use Rattle.formulas.specs.declared.Sign.{Sign}
 use Rattle.formulas.specs.declared.Token.{Token}
-use Rattle.formulas.specs.declared.builder.Part.{Part}
+use Rattle.formulas.specs.declared.Token.TheVariants.{Operator, Closing, Other}
 use Rattle.formulas.proofs.Positions.{token_at, inside}
 use Rattle.formulas.proofs.ByteTokens.{token_closing}
-use Rattle.formulas.proofs.SignTurns.{TurnAt, turn_at, turn_breaks, turn_right, sign_few, sign_inside, no_rank, operand_right, operand_breaks, broken_part}
-use Rattle.formulas.proofs.OperandReads.{letter_few, no_operand, letter_right, literal_right, none_left, inner_breaks, not_closed, brackets_right}
+use Rattle.formulas.proofs.SignTurns.{turn_at, turn_breaks, turn_right, sign_inside, no_rank, operand_right}
+use Rattle.formulas.proofs.OperandReads.{letter_few, Bad, no_operand, letter_right, literal_right, none_left, inner_breaks, not_closed, brackets_right}
 use Rattle.formulas.proofs.builder.+chain_operand.Goals as goal
 
--- ---- `chain`: one turn of its loop
+-- ---- `chain`
+
 -- the sign that a turn begins at
-turn : (rank : ℕ) (text : List ℕ) (at r : ℕ) → (r ≢ 0) → r ≡ sign_rank rank (get_or text at 0) → TurnAt rank (get_or text at 0) (r - 1)
-turn rank text at r n e = let s : r ≡ suc (r - 1) = omega arith in turn_at rank _ (r - 1) (sym e ∙ s)
+sign_at : (rank : ℕ) (text : List ℕ) (at b : ℕ) {g : Sign} → Some g ≡ sign_within rank b → b ≡ get_or text at 0 → sign_within rank (get_or text at 0) ≡ Some g
+sign_at rank text at b e f = sym (e ∙ ap (sign_within rank) f)
 
--- what stands behind it is small
-small_behind : (text : List ℕ) (inputs rank depth at count beyond : ℕ) (before after : List ℤ) (l : Part) → Small text inputs at count
-    → Right text inputs rank depth at count beyond before after l → l.next < length text → Small text inputs (l.next + 1) l.count
-small_behind text inputs rank depth at count beyond before after l s r h =
-    record { short = s.short; few_inputs = s.few_inputs; few_steps = omega (arith, s.few_steps, r.few_steps); inside = omega arith }
+pub chain-loop-sign-init : goal.chain-loop-sign-init
+chain-loop-sign-init t c = operand_right c.args.rank c.in_ok-left.ensures.right
 
-pub chain-operand-left-requires : goal.chain-operand-left-requires
-chain-operand-left-requires t c = (omega arith, c.requires)
-
-pub chain-returns-then-left-ne0 : goal.chain-returns-then-left-ne0
-chain-returns-then-left-ne0 t c =
+pub chain-returns-in_err-right : goal.chain-returns-in_err-right
+chain-returns-in_err-right t c =
     let a = c.args in
-    let p = c.operand-left in
-    broken_part p.result c.if-left-ne0.true (operand_breaks a.rank a.text.now a.inputs a.depth a.at p.result.wrong (p.ensures.breaks c.if-left-ne0.true))
+    let l = c.loop-sign in
+    let s = sign_at a.rank a.text.now l.left.next c.byte.result c.in-Some.ensures c.byte.ensures in
+    let w = c.in_err-right.field-0.0 in
+    let p = err_from_is_err_and c.from_residual-in_err-right.result c.from_residual-in_err-right.ensures.1 in
+    let b : Breaks a.text.now a.steps.now.inputs _ a.depth (l.left.next + 1) w.place =
+    subst₂ (λ (i r : ℕ). Breaks a.text.now i (r - 1) a.depth (l.left.next + 1) w.place) l.invariant.same_inputs c.rank.ensures c.in_err-right.ensures in
+    rw (p.1, p.2)
+    (turn_breaks a.text.now a.steps.now.inputs a.rank a.depth a.at a.steps.now l.steps l.left l.invariant c.in-Some.sign (turn_at a.rank _ _ s)
+    (sign_inside a.text.now a.rank l.left.next _ s) w.place b)
 
-pub chain-loop-r-init : goal.chain-loop-r-init
-chain-loop-r-init t c =
-    (c.operand-left.auto.numbers ∙ c.requires.0, c.if-left-ne0.false, c.sign_rank-r.ensures ∙ ap (sign_rank c.args.rank) c.byte.ensures, λ before r. r)
-
-pub chain-overflow_add-left : goal.chain-overflow_add-left
-chain-overflow_add-left t c =
-    let l = c.loop-r in
-    let f = sign_inside c.args.text.now l.left.next (l.r - 1) (turn c.args.rank c.args.text.now l.left.next l.r c.loop-r-test.true l.invariant.2).is in
-    let s = c.requires.1.short in
-    search rules
-
-pub chain-chain-right-requires : goal.chain-chain-right-requires
-chain-chain-right-requires t c =
+pub chain-loop-sign-preserved : goal.chain-loop-sign-preserved
+chain-loop-sign-preserved t c =
     let a = c.args in
-    let l = c.loop-r in
-    let u = turn a.rank a.text.now l.left.next l.r c.loop-r-test.true l.invariant.2 in
-    let f = l.invariant.3 a.numbers.now (operand_right a.rank (c.operand-left.ensures.right c.if-left-ne0.false)) in
-    let h = sign_inside a.text.now l.left.next (l.r - 1) u.is in
-    (omega (arith, u.below), (l.invariant.0, small_behind a.text.now a.inputs a.rank a.depth a.at a.count a.beyond a.numbers.now l.numbers l.left c.requires.1 f h))
-
-pub chain-returns-then-right-ne0 : goal.chain-returns-then-right-ne0
-chain-returns-then-right-ne0 t c =
-    let a = c.args in
-    let l = c.loop-r in
-    let u = turn a.rank a.text.now l.left.next l.r c.loop-r-test.true l.invariant.2 in
-    let f = l.invariant.3 a.numbers.now (operand_right a.rank (c.operand-left.ensures.right c.if-left-ne0.false)) in
-    let h = sign_inside a.text.now l.left.next (l.r - 1) u.is in
-    broken_part c.chain-right.result c.if-right-ne0.true
-    (turn_breaks a.text.now a.inputs a.rank (l.r - 1) a.depth a.at a.count a.beyond a.numbers.now l.numbers l.left f u h c.chain-right.result.wrong
-    (c.chain-right.ensures.breaks c.if-right-ne0.true))
-
-pub chain-put_sign-count-requires : goal.chain-put_sign-count-requires
-chain-put_sign-count-requires t c =
-    let a = c.args in
-    let b = c.loop-r in
-    let s = c.requires.1 in
-    let l = b.invariant.3 a.numbers.now (operand_right a.rank (c.operand-left.ensures.right c.if-left-ne0.false)) in
-    let r = c.chain-right.ensures.right c.if-right-ne0.false in (
-      c.chain-right.auto.numbers ∙ b.invariant.0,
-      s.few_inputs,
-      omega (arith, s.short, r.within, r.few_steps, s.few_steps, l.few_steps),
-      omega (arith, s.short, s.few_inputs, l.within, l.few_steps, l.few_rows, s.few_steps),
-      omega (arith, s.short, s.few_inputs, r.within, r.few_steps, r.few_rows, s.few_steps, l.few_steps),
-    )
-
-pub chain-overflow_add-inputs : goal.chain-overflow_add-inputs
-chain-overflow_add-inputs t c =
-    let a = c.args in
-    let s = c.requires.1 in
-    let l = c.loop-r.invariant.3 a.numbers.now (operand_right a.rank (c.operand-left.ensures.right c.if-left-ne0.false)) in
-    let r = c.chain-right.ensures.right c.if-right-ne0.false in
-    let few : a.inputs + c.put_sign-count.result ≤ 1000 =
-    omega (arith, s.short, s.few_inputs, r.within, r.few_steps, s.few_steps, l.few_steps, c.put_sign-count.ensures.counted, sign_few c.byte_sign-g.result) in
-    search rules
-
-pub chain-loop-r-smaller : goal.chain-loop-r-smaller
-chain-loop-r-smaller t c =
-    let b = c.loop-r in
-    let r = c.chain-right.ensures.right c.if-right-ne0.false in
-    let h = sign_inside c.args.text.now b.left.next (b.r - 1) (turn c.args.rank c.args.text.now b.left.next b.r c.loop-r-test.true b.invariant.2).is in
-    omega (arith, ap (λ (p : Part). p.next) c.part_of-left.ensures, r.longer, h)
-
-pub chain-loop-r-preserved : goal.chain-loop-r-preserved
-chain-loop-r-preserved t c =
-    let a = c.args in
-    let b = c.loop-r in
-    let l = b.left in
-    let w = c.part_of-left.ensures in
-    let q = c.put_sign-count in
-    let d = c.chain-right in
-    let y = d.result in
-    let u = turn a.rank a.text.now l.next b.r c.loop-r-test.true b.invariant.2 in
-    let h = sign_inside a.text.now l.next (b.r - 1) u.is in
-    let r = d.ensures.right c.if-right-ne0.false in
-    let g : c.byte_sign-g.result ≡ byte_sign (get_or a.text.now l.next 0) = c.byte_sign-g.ensures ∙ ap byte_sign c.byte-in-loop-r.ensures in
-    let middle = d.new.numbers in (
-      q.auto.numbers ∙ d.auto.numbers ∙ b.invariant.0,
-      ap (λ (p : Part). p.wrong) w,
-      c.sign_rank-r-in-loop-r.ensures ∙ ap (sign_rank a.rank) c.byte-in-loop-r-2.ensures,
-      λ before f.
-          subst (Right a.text.now a.inputs a.rank a.depth a.at a.count a.beyond before _) (sym w)
-          (turn_right a.text.now a.inputs a.rank (b.r - 1) a.depth a.at a.count a.beyond before b.numbers l (b.invariant.3 before f) u h
-          middle y r (d.ensures.stops c.if-right-ne0.false) _ q.result (q.ensures.counted ∙ ap (λ (k : Sign). y.count + sign_count k) g)
-          (q.ensures.left ∙ ap (λ (k : Sign). sets middle (4 * y.count) (all_numbers (sign_steps k (a.inputs + y.count) l.row y.row))) g)),
-    )
-
-pub chain-returns : goal.chain-returns
-chain-returns t c =
-    let b = c.loop-r in
-    record {
-      right = λ _. b.invariant.3 c.args.numbers.now (operand_right c.args.rank (c.operand-left.ensures.right c.if-left-ne0.false));
-      stops = λ _. sym b.invariant.2 ∙ c.loop-r-test.false;
-      breaks = λ n. absurd (n b.invariant.1);
-    }
+    let l = c.loop-sign in
+    let s = sign_at a.rank a.text.now l.left.next c.byte.result c.in-Some.ensures c.byte.ensures in
+    let middle = c.chain.new.steps in
+    let right = c.in_ok-right.right in
+    let p : PartRight a.text.now a.steps.now.inputs _ a.depth (l.left.next + 1) l.steps middle right =
+    subst₂ (λ (i r : ℕ). PartRight a.text.now i (r - 1) a.depth (l.left.next + 1) l.steps middle right) l.invariant.same_inputs c.rank.ensures c.in_ok-right.ensures in
+    turn_right a.text.now a.steps.now.inputs a.rank a.depth a.at a.steps.now l.steps l.left l.invariant c.in-Some.sign (turn_at a.rank _ _ s)
+    (sign_inside a.text.now a.rank l.left.next _ s) middle right p.right p.stops c.push_sign.new.self c.last_row.result c.push_sign.ensures c.last_row.ensures
 
 -- ---- `operand`: what its first byte tells
-told : (text : List ℕ) (inputs at b : ℕ) {r k : Token} → r ≡ token_of inputs b → b ≡ get_or text at 0 → r ≡ k → token_at text inputs at ≡ k
-told text inputs at b e f g = sym (e ∙ ap (token_of inputs) f) ∙ g
 
--- no operand stands here
-wrong_here : (text : List ℕ) (inputs depth at count beyond : ℕ) (before after : List ℤ) (p : Part) {k : Token} → Small text inputs at count → p.wrong ≡ suc at → token_at text inputs at ≡ k
-    → ((o : Open) (around : List Open) → length around + depth ≡ max_nesting → next (wanting o around) k ≡ broken)
-    → PartRead text inputs 0 depth at count beyond before after p
-wrong_here text inputs depth at count beyond before after p s w e b =
-    broken_part p (omega (arith, w)) (subst (Breaks text inputs 0 depth at) (sym w) (no_operand text inputs depth at count beyond before s e b))
+told : (text : List ℕ) (inputs at b : ℕ) {k : Token} → k ≡ token_of inputs b → b ≡ get_or text at 0 → token_at text inputs at ≡ k
+told text inputs at b e f = sym (e ∙ ap (token_of inputs) f)
 
 -- with one pair of brackets more to go than within them
 at_depth : (depth : ℕ) → (depth ≢ 0) → (P : ℕ → Type 0) → P (suc (depth - 1)) → P depth
@@ -154,119 +66,91 @@ at_depth depth n P = let e : suc (depth - 1) ≡ depth = omega arith in subst P 
 pub operand-constant-requires : goal.operand-constant-requires
 operand-constant-requires t c =
     let a = c.args in
-    (c.requires.0, c.requires.1, inside a.text.now a.inputs a.at (told a.text.now a.inputs a.at c.byte.result c.token_of.ensures c.byte.ensures c.in-Digit.is) tt)
+    (c.requires, inside a.text.now a.steps.now.inputs a.at (told a.text.now a.steps.now.inputs a.at c.byte.result c.in-Digit.ensures c.byte.ensures) tt)
 
-pub operand-overflow_add-i : goal.operand-overflow_add-i
-operand-overflow_add-i t c =
+pub operand-overflow_add-result-in-Letter : goal.operand-overflow_add-result-in-Letter
+operand-overflow_add-result-in-Letter t c =
     let a = c.args in
-    let f = letter_few a.inputs _ _ (told a.text.now a.inputs a.at c.byte.result c.token_of.ensures c.byte.ensures c.in-Letter.is) in
-    let s = c.requires.1.few_inputs in
+    let f = letter_few a.steps.now.inputs _ _ (told a.text.now a.steps.now.inputs a.at c.byte.result c.in-Letter.ensures c.byte.ensures) in
+    let s = c.requires.few_inputs in
     search rules
 
 pub operand-returns-then-depth-eq0 : goal.operand-returns-then-depth-eq0
 operand-returns-then-depth-eq0 t c =
     let a = c.args in
     let z : a.depth ≡ 0 = c.if-depth-eq0.true in
-    wrong_here a.text.now a.inputs a.depth a.at a.count a.beyond a.numbers.now _ c.wrong_at-then-depth-eq0.result c.requires.1 c.wrong_at-then-depth-eq0.ensures
-    (told a.text.now a.inputs a.at c.byte.result c.token_of.ensures c.byte.ensures c.in-Opening.is)
-    (λ o around e. none_left o around (subst (λ (n : ℕ). length around + n ≡ max_nesting) z e))
+    subst (Breaks a.text.now a.steps.now.inputs 0 a.depth a.at) (sym c.wrong_at.ensures)
+    (no_operand a.text.now a.steps.now.inputs a.depth a.at (told a.text.now a.steps.now.inputs a.at c.byte.result c.in-Opening.ensures c.byte.ensures)
+    (λ o around e. none_left o around (subst (λ (n : ℕ). length around + n ≡ max_nesting) z e)))
 
-pub operand-chain-inner-requires : goal.operand-chain-inner-requires
-operand-chain-inner-requires t c =
+pub operand-chain-requires : goal.operand-chain-requires
+operand-chain-requires t c =
     let a = c.args in
-    let s = c.requires.1 in
-    let h = inside a.text.now a.inputs a.at (told a.text.now a.inputs a.at c.byte.result c.token_of.ensures c.byte.ensures c.in-Opening.is) tt in
-    (omega (arith, c.if-depth-eq0.false), (c.requires.0, record { short = s.short; few_inputs = s.few_inputs; few_steps = omega (arith, s.few_steps); inside = omega (arith, h) }))
+    let s = c.requires in
+    let h = inside a.text.now a.steps.now.inputs a.at (told a.text.now a.steps.now.inputs a.at c.byte.result c.in-Opening.ensures c.byte.ensures) tt in
+    (omega (arith, c.if-depth-eq0.false), record { short = s.short; few_inputs = s.few_inputs; few_steps = omega (arith, s.few_steps); inside = omega (arith, h) })
 
-pub operand-returns-then-inner-ne0 : goal.operand-returns-then-inner-ne0
-operand-returns-then-inner-ne0 t c =
+pub operand-returns-in_err-inner-in-Opening : goal.operand-returns-in_err-inner-in-Opening
+operand-returns-in_err-inner-in-Opening t c =
     let a = c.args in
-    let d = c.chain-inner in
-    let o = told a.text.now a.inputs a.at c.byte.result c.token_of.ensures c.byte.ensures c.in-Opening.is in
-    let h = inside a.text.now a.inputs a.at o tt in
-    broken_part d.result c.if-inner-ne0.true
-    (at_depth a.depth c.if-depth-eq0.false (λ (n : ℕ). Breaks a.text.now a.inputs 0 n a.at d.result.wrong)
-    (inner_breaks a.text.now a.inputs (a.depth - 1) a.at a.count a.beyond o h d.result.wrong (d.ensures.breaks c.if-inner-ne0.true)))
-
-pub operand-wrong_at-requires-then-byte-ne41 : goal.operand-wrong_at-requires-then-byte-ne41
-operand-wrong_at-requires-then-byte-ne41 t c =
-    let r = c.chain-inner.ensures.right c.if-inner-ne0.false in
-    omega (arith, r.within, c.requires.1.short)
+    let o = told a.text.now a.steps.now.inputs a.at c.byte.result c.in-Opening.ensures c.byte.ensures in
+    let w = c.in_err-inner-in-Opening.field-0.0 in
+    let p = err_from_is_err_and c.from_residual.result c.from_residual.ensures.1 in
+    rw (p.1, p.2)
+    (at_depth a.depth c.if-depth-eq0.false (λ (n : ℕ). Breaks a.text.now a.steps.now.inputs 0 n a.at w.place)
+    (inner_breaks a.text.now a.steps.now.inputs (a.depth - 1) a.at o (inside a.text.now a.steps.now.inputs a.at o tt) w.place c.in_err-inner-in-Opening.ensures))
 
 pub operand-returns-then-byte-ne41 : goal.operand-returns-then-byte-ne41
 operand-returns-then-byte-ne41 t c =
     let a = c.args in
-    let d = c.chain-inner in
-    let o = told a.text.now a.inputs a.at c.byte.result c.token_of.ensures c.byte.ensures c.in-Opening.is in
-    let h = inside a.text.now a.inputs a.at o tt in
-    let z = c.if-inner-ne0.false in
-    let w = c.wrong_at-then-byte-ne41.ensures in
-    broken_part c.wrong_at-then-byte-ne41.result (omega (arith, w))
-    (at_depth a.depth c.if-depth-eq0.false (λ (n : ℕ). Breaks a.text.now a.inputs 0 n a.at c.wrong_at-then-byte-ne41.result.wrong)
-    (subst (Breaks a.text.now a.inputs 0 (suc (a.depth - 1)) a.at) (sym w)
-    (not_closed a.text.now a.inputs (a.depth - 1) a.at a.count a.beyond o h a.numbers.now _ d.result (d.ensures.right z) (d.ensures.stops z)
-    (λ e. c.if-byte-ne41.true (c.byte-in-Opening.ensures ∙ e)))))
-
-pub operand-overflow_add-inner : goal.operand-overflow_add-inner
-operand-overflow_add-inner t c =
-    let r = c.chain-inner.ensures.right c.if-inner-ne0.false in
-    let s = c.requires.1.short in
-    let w = r.within in
-    search rules
+    let o = told a.text.now a.steps.now.inputs a.at c.byte.result c.in-Opening.ensures c.byte.ensures in
+    let r = c.in_ok-inner-in-Opening.ensures in
+    subst (Breaks a.text.now a.steps.now.inputs 0 a.depth a.at) (sym c.wrong_at-then-byte-ne41.ensures)
+    (at_depth a.depth c.if-depth-eq0.false (λ (n : ℕ). Breaks a.text.now a.steps.now.inputs 0 n a.at (suc c.in_ok-inner-in-Opening.inner.next))
+    (not_closed a.text.now a.steps.now.inputs (a.depth - 1) a.at o (inside a.text.now a.steps.now.inputs a.at o tt) a.steps.now c.chain.new.steps
+    c.in_ok-inner-in-Opening.inner r.right r.stops (λ e. c.if-byte-ne41.true (c.byte-in-Opening.ensures ∙ e))))
 
 pub operand-returns-in-Digit : goal.operand-returns-in-Digit
 operand-returns-in-Digit t c =
     let a = c.args in
-    let e = told a.text.now a.inputs a.at c.byte.result c.token_of.ensures c.byte.ensures c.in-Digit.is in
-    let k = c.constant.ensures in
+    let d = told a.text.now a.steps.now.inputs a.at c.byte.result c.in-Digit.ensures c.byte.ensures in
     record {
-      right = λ _. literal_right a.text.now a.inputs a.depth a.at a.count a.beyond a.numbers.now c.requires.1 _ e (inside a.text.now a.inputs a.at e tt) _ c.constant.result k;
-      stops = λ _. no_rank (get_or a.text.now c.constant.result.next 0);
-      breaks = λ n. absurd (n k.right);
+      right =
+          literal_right a.text.now a.steps.now.inputs a.depth a.at _ d (inside a.text.now a.steps.now.inputs a.at d tt) a.steps.now c.constant.new.steps c.constant.result refl
+          c.constant.ensures;
+      stops = no_rank (get_or a.text.now c.constant.result.next 0);
     }
 
 pub operand-returns-in-Letter : goal.operand-returns-in-Letter
 operand-returns-in-Letter t c =
     let a = c.args in
-    let e = told a.text.now a.inputs a.at c.byte.result c.token_of.ensures c.byte.ensures c.in-Letter.is in
-    subst (PartRead a.text.now a.inputs 0 a.depth a.at a.count a.beyond a.numbers.now a.numbers.now) (sym c.part_of.ensures) record {
-      right = λ _. letter_right a.text.now a.inputs a.depth a.at a.count a.beyond a.numbers.now c.requires.1 _ e (inside a.text.now a.inputs a.at e tt);
-      stops = λ _. no_rank (get_or a.text.now (a.at + 1) 0);
-      breaks = λ n. absurd (n refl);
+    let e = told a.text.now a.steps.now.inputs a.at c.byte.result c.in-Letter.ensures c.byte.ensures in
+    record {
+      right = letter_right a.text.now a.steps.now.inputs a.depth a.at _ e (inside a.text.now a.steps.now.inputs a.at e tt) a.steps.now refl;
+      stops = no_rank (get_or a.text.now (a.at + 1) 0);
+    }
+
+pub operand-returns-else-byte-ne41 : goal.operand-returns-else-byte-ne41
+operand-returns-else-byte-ne41 t c =
+    let a = c.args in
+    let o = told a.text.now a.steps.now.inputs a.at c.byte.result c.in-Opening.ensures c.byte.ensures in
+    let p = c.in_ok-inner-in-Opening.inner in
+    let r = c.in_ok-inner-in-Opening.ensures in
+    let after = c.chain.new.steps in
+    let closing : get_or a.text.now p.next 0 ≡ 41 = sym c.byte-in-Opening.ensures ∙ c.if-byte-ne41.false in
+    let l = inside a.text.now a.steps.now.inputs p.next (ap (token_of a.steps.now.inputs) closing ∙ token_closing a.steps.now.inputs) tt in
+    record {
+      right =
+          at_depth a.depth c.if-depth-eq0.false
+          (λ (n : ℕ). Right a.text.now a.steps.now.inputs 0 n a.at a.steps.now after (record { next = p.next + 1; row = p.row }))
+          (brackets_right a.text.now a.steps.now.inputs (a.depth - 1) a.at o (inside a.text.now a.steps.now.inputs a.at o tt) a.steps.now after p r.right r.stops closing l);
+      stops = no_rank (get_or a.text.now (p.next + 1) 0);
     }
 
 pub operand-returns-in-Operator : goal.operand-returns-in-Operator
 operand-returns-in-Operator t c =
     let a = c.args in
-    wrong_here a.text.now a.inputs a.depth a.at a.count a.beyond a.numbers.now _ c.wrong_at.result c.requires.1 c.wrong_at.ensures
-    (told a.text.now a.inputs a.at c.byte.result c.token_of.ensures c.byte.ensures c.in-Operator.is) (λ o around e. refl)
-
-pub operand-returns-else-byte-ne41 : goal.operand-returns-else-byte-ne41
-operand-returns-else-byte-ne41 t c =
-    let a = c.args in
-    let d = c.chain-inner in
-    let o = told a.text.now a.inputs a.at c.byte.result c.token_of.ensures c.byte.ensures c.in-Opening.is in
-    let h = inside a.text.now a.inputs a.at o tt in
-    let z = c.if-inner-ne0.false in
-    let closing : get_or a.text.now d.result.next 0 ≡ 41 = sym c.byte-in-Opening.ensures ∙ c.if-byte-ne41.false in
-    let l = inside a.text.now a.inputs d.result.next (ap (token_of a.inputs) closing ∙ token_closing a.inputs) tt in
-    let after = d.new.numbers in
-    subst (PartRead a.text.now a.inputs 0 a.depth a.at a.count a.beyond a.numbers.now after) (sym c.part_of-in-Opening.ensures) record {
-      right = λ _. at_depth a.depth c.if-depth-eq0.false
-          (λ (n : ℕ). Right a.text.now a.inputs 0 n a.at a.count a.beyond a.numbers.now after (part_of (d.result.next + 1) d.result.row d.result.count d.result.beyond))
-          (brackets_right a.text.now a.inputs (a.depth - 1) a.at a.count a.beyond o h a.numbers.now _ d.result (d.ensures.right z) (d.ensures.stops z) closing l);
-      stops = λ _. no_rank (get_or a.text.now (d.result.next + 1) 0);
-      breaks = λ n. absurd (n refl);
-    }
-
-pub operand-returns-in-Closing : goal.operand-returns-in-Closing
-operand-returns-in-Closing t c =
-    let a = c.args in
-    wrong_here a.text.now a.inputs a.depth a.at a.count a.beyond a.numbers.now _ c.wrong_at-in-Closing.result c.requires.1 c.wrong_at-in-Closing.ensures
-    (told a.text.now a.inputs a.at c.byte.result c.token_of.ensures c.byte.ensures c.in-Closing.is) (λ o around e. refl)
-
-pub operand-returns-in-Other : goal.operand-returns-in-Other
-operand-returns-in-Other t c =
-    let a = c.args in
-    wrong_here a.text.now a.inputs a.depth a.at a.count a.beyond a.numbers.now _ c.wrong_at-in-Other.result c.requires.1 c.wrong_at-in-Other.ensures
-    (told a.text.now a.inputs a.at c.byte.result c.token_of.ensures c.byte.ensures c.in-Other.is) (λ o around e. refl)
+    let no : (k : Token) → c.token_of.result ≡ k → Bad a.text.now a.steps.now.inputs a.depth a.at k → Breaks a.text.now a.steps.now.inputs 0 a.depth a.at (suc a.at) =
+    λ k e b. no_operand a.text.now a.steps.now.inputs a.depth a.at (told a.text.now a.steps.now.inputs a.at c.byte.result (sym e ∙ c.token_of.ensures) c.byte.ensures) b in
+    subst (Breaks a.text.now a.steps.now.inputs 0 a.depth a.at) (sym c.wrong_at-in-Operator.ensures)
+    (⊎_elim (λ (g, e). no (Operator g) e (λ o around d. refl)) (⊎_elim (λ e. no Closing e (λ o around d. refl)) (λ e. no Other e (λ o around d. refl))) c.in-Operator.is)

@@ -2,8 +2,5 @@
 use Rattle.integer.proofs.RootLaws.{Gap}
 use Rattle.integer.proofs.root.search.Given as goal
 
-abbrev pub invariant-loop-width : goal.invariant-loop-width
-invariant-loop-width l = Gap l.n l.r l.width
-
-abbrev pub decreases-loop-width : goal.decreases-loop-width
-decreases-loop-width l = l.width
+abbrev pub invariant-loop-bit : goal.invariant-loop-bit
+invariant-loop-bit g l = Gap l.n l.r l.bit

@@ -1,0 +1,20 @@
+-- `by_index::front` meets its contract: each turn puts one number into zeros.
+use Rattle.std.proofs.Common.{◌∙◌, arith}
+use Rattle.std.proofs.lemmas.List.{length-replicate, length-set}
+use Rattle.integer.proofs.Machine.{back}
+use Rattle.affine.proofs.Support.{at_replicate}
+use Rattle.affine.proofs.Put.{put_given, put_zeros}
+use Rattle.affine.proofs.by_index.front.Goals as goal
+
+pub loop-i-init : goal.loop-i-init
+loop-i-init g c = record { long = length-replicate g.row.N _; given = λ k h. absurd (omega arith); zeros = λ k h. at_replicate g.row.N k }
+
+pub loop-i-preserved : goal.loop-i-preserved
+loop-i-preserved g c =
+    let i = c.loop-i.invariant in
+    record {
+      long = length-set c.loop-i.out c.loop-i.i _ ∙ i.long;
+      given = rw (back c.f.type_inv) (put_given (λ k v. goal.F-post g c.args.f k v) c.loop-i.out c.loop-i.i c.f.result
+          (omega (arith, i.long, c.loop-i-test.true, c.requires.few)) i.given (λ k d h. omega arith) c.f.ensures);
+      zeros = put_zeros c.loop-i.out c.loop-i.i _ i.zeros (λ k h. (λ e. omega (arith, e), omega arith));
+    }

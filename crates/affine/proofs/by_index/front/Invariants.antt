@@ -1,0 +1,10 @@
+use Rattle.std.proofs.Common.{◌≡◌, ℕ, ◌≤◌, ◌<◌, pos, length}
+use Rattle.affine.specs.Lists.{at}
+use Rattle.affine.proofs.by_index.front.Given as goal
+
+abbrev pub invariant-loop-i : goal.invariant-loop-i
+invariant-loop-i g l = record {
+  long : length l.out ≡ g.row.N;
+  given : (k : ℕ) → k < l.i → goal.F-post g l.f k (at l.out k);
+  zeros : (k : ℕ) → l.i ≤ k → at l.out k ≡ pos 0;
+}

@@ -1,0 +1,74 @@
+-- The answer of `Answers.antt` that each result of the code stands for: "Where the answer is an enum, there is a definition that gives
+-- this paper's number and values for each of its cases."
+use Rattle.std.specs.Prelude.{Option, Some, None, Result, Ok, Err, ℕ, true, ltb}
+use Rattle.sheet.specs.Choice.{pick}
+use Rattle.sheet.specs.Answers.{Refusal, ReadAnswer, WriteAnswer, Field, Number, Broken, Fields, Part}
+use Rattle.sheet.specs.Causes.{refusal, accepted}
+use Rattle.sheet.specs.Lines.{zero_schedule}
+use Rattle.sheet.specs.Reading.{no_fields, part_read, part_refused}
+use Rattle.sheet.specs.Writing.{not_written}
+use Rattle.sheet.specs.declared.Schedule.{Schedule}
+use Rattle.sheet.specs.declared.causes.Cause.{Cause}
+use Rattle.sheet.specs.declared.causes.Cause.TheVariants.{SheetTooLong, LineBroken, CountWrong, EndWrong, StepWrong, SpanPassed, ZeroInRange, RoomTooShort, NoSuchRow, NoFormula, StepCount, NoRoot}
+use Rattle.sheet.specs.declared.causes.Refused.{Refused}
+use Rattle.sheet.specs.declared.number.Number.{Number as FoundNumber}
+use Rattle.sheet.specs.declared.fields.Fields.{Fields as FoundFields}
+
+-- The numbers of the table of "Causes and what follows" (manual, section 6).
+abbrev pub number : Cause → ℕ
+number SheetTooLong = 1
+number LineBroken = 2
+number CountWrong = 3
+number EndWrong = 4
+number StepWrong = 5
+number SpanPassed = 6
+number ZeroInRange = 7
+number RoomTooShort = 8
+number NoSuchRow = 9
+number NoFormula = 10
+number StepCount = 11
+number NoRoot = 12
+
+abbrev pub refusal_of : Refused → Refusal
+refusal_of r = refusal (number r.cause) r.place
+
+-- "An accepted call has number 0 and place 0."
+abbrev pub tested : Result (Unit {0}) Refused → Refusal
+tested (Ok u) = accepted
+tested (Err r) = refusal_of r
+
+-- "Beside a refusal every other answer is 0, no, or a schedule of zeros."
+abbrev pub read_answer : Result Schedule Refused → ReadAnswer
+read_answer (Ok c) = record { refusal = accepted; schedule = c }
+read_answer (Err r) = record { refusal = refusal_of r; schedule = zero_schedule }
+
+abbrev pub write_answer : Result ℕ Refused → WriteAnswer
+write_answer (Ok n) = record { refusal = accepted; length = n }
+write_answer (Err r) = not_written (refusal_of r)
+
+-- The digit below 10 that a number is.
+abbrev pub as_digit : ℕ → Option ℕ
+as_digit d = pick (ltb d 10) (Some d) None
+
+abbrev pub field : Option FoundNumber → Field
+field (Some n) = Number n.value n.next
+field None = Broken
+
+abbrev pub fields : Option FoundFields → Fields
+fields (Some f) = record { ok = true; next = f.next; values = f.values }
+fields None = no_fields
+
+-- The fault of a line, or 0.
+abbrev pub fault_of : Result (Unit {0}) Cause → ℕ
+fault_of (Ok u) = 0
+fault_of (Err c) = number c
+
+-- Line `n`, read into a schedule that is `c` afterwards, up to the position that is answered.
+abbrev pub line_part : ℕ → Schedule → Result ℕ Cause → Part
+line_part n c (Ok next) = part_read next c
+line_part n c (Err cause) = part_refused (refusal (number cause) n)
+
+-- The same of several lines.
+abbrev pub part : Schedule → Result ℕ Refused → Part
+part c (Ok next) = part_read next c
+part c (Err r) = part_refused (refusal_of r)
