@@ -3,7 +3,6 @@ use mathlib.Core.Path.{◌≡◌}
 use Prim.Native.Nat.{ℕ, ◌+◌, ◌*◌, ◌^◌, ◌≤◌, ◌<◌}
 use native.Mathlib.Omega.{arith}
 use lib.IntN.{ℤ, pos, nat_abs, ◌*ℤ◌, *ℤ-zero}
-use lib.ListN.{length}
 use Rattle.integer.specs.Sum.{sum_abs}
 use Rattle.integer.proofs.Floor.{nat_abs_quotient, zero_quotient}
 use Rattle.integer.proofs.Sum.{sum_abs_element}
@@ -14,11 +13,11 @@ use Rattle.affine.specs.PairOrder.{first_of, second_of, in_use}
 use Rattle.affine.specs.Row.{span}
 use Rattle.affine.specs.Product.{meeting}
 use Rattle.affine.specs.Reciprocal.{slope, candidate_linear, curve, candidate_pair, candidate}
-use Rattle.affine.proofs.Lists.{pick_elim, length_tabulate, at_tabulate_all}
+use Rattle.affine.proofs.Lists.{pick_elim, at_tabulate_all}
 use Rattle.affine.proofs.SumLaws.{sum_abs_tabulate_each}
-use Rattle.affine.proofs.RowSize.{span_is_sum, centre_within, linear_at_within, pair_at_within}
+use Rattle.affine.proofs.RowSize.{span_is_sum, linear_at_within, pair_at_within}
 use Rattle.affine.proofs.Magnitude.{meeting_within}
-use Rattle.affine.proofs.CandidateSize.{slope_within_unit, slope_size, bend_size, curve_size}
+use Rattle.affine.proofs.CandidateSize.{slope_within_unit, curve_at_most}
 
 pub slope_zero : (c : ℤ) → slope c (pos 0) ≡ pos 0
 slope_zero c = rw *ℤ-zero (zero_quotient (c *ℤ c))
@@ -33,11 +32,7 @@ module _ (x : Row) (some : 0 < nat_abs x.centre) (h : sum_abs x.linear ≤ nat_a
       at_tabulate_all (λ z. nat_abs z ≤ unit_squared) symbols (λ i. slope x.centre (at x.linear i)) (omega arith) slope_within
 
   pub candidate_meeting_within : span x ≤ span_limit → (i j : ℕ) → nat_abs (meeting (candidate_linear x) x.linear i j) ≤ 2 * (unit_squared * span_limit)
-  candidate_meeting_within within = meeting_within (candidate_linear x) x.linear (omega arith) candidate_linear_within (linear_at_within x within)
-
-pub length_candidate_pair : (squares : ℕ) (x : Row) → length (candidate_pair squares x) ≡ pairs
-unfolding candidate_pair
-length_candidate_pair squares x = length_tabulate pairs _
+  candidate_meeting_within within = meeting_within (candidate_linear x) x.linear candidate_linear_within (linear_at_within x within)
 
 -- ---- its span
 module _ (squares : ℕ) (x : Row) (some : 0 < nat_abs x.centre) (h : sum_abs x.linear ≤ nat_abs x.centre) (within : span x ≤ span_limit) where
@@ -52,9 +47,7 @@ module _ (squares : ℕ) (x : Row) (some : 0 < nat_abs x.centre) (h : sum_abs x.
   curve_within : (k : ℕ) → nat_abs (curve x k) ≤ curve_most
   curve_within k =
       let met = meeting (candidate_linear x) x.linear (first_of k) (second_of k) in
-      curve_size
-      (slope_size span_limit x.centre (at x.pair k) (omega arith) (omega arith) (centre_within x within) (pair_at_within x within k) some)
-      (bend_size (2 * (unit_squared * span_limit)) x.centre met (omega arith) (candidate_meeting_within x some h within (first_of k) (second_of k)) some)
+      curve_at_most x.centre (at x.pair k) met (pair_at_within x within k) (candidate_meeting_within x some h within (first_of k) (second_of k))
 
   pair_sum : sum_abs (candidate_pair squares x) ≤ curve_most * pairs
   unfolding candidate_pair

@@ -1,21 +1,18 @@
 -- A sum that stops one above the span limit: stopping early changes neither the sum so stopped nor the test of it.
 use mathlib.Core.Path.{◌≡◌, refl, sym, ap, ◌∙◌}
-use mathlib.Core.List.{List}
+use mathlib.Core.List.{List, [], ◌∷◌}
+use Rattle.std.specs.List.{fold}
 use native.Mathlib.Decide.{dec_le}
 use Prim.Native.Nat.{min, ℕ, suc, ◌+◌, ◌≤◌, ◌<◌}
 use native.Mathlib.Nat.{add-zero, zero-add, add_assoc}
 use native.Mathlib.Omega.{arith}
 use lib.Dec.{leb}
 use lib.IntN.{ℤ, nat_abs}
-use lib.ListN.{length, take}
 use borrow.Author.Tests.{le-leb, lt-leb, leb-true, leb-false}
 use Rattle.integer.specs.Sum.{sum_abs}
-use Rattle.integer.proofs.Sum.{sum_abs_more}
 use Rattle.affine.specs.Limits.{span_limit}
-use Rattle.affine.specs.Lists.{at}
 use Rattle.affine.specs.Capped.{capped}
 use Rattle.affine.proofs.Lists.{pick_elim}
-use Rattle.affine.proofs.SumLaws.{sum_abs_all}
 
 pub capped_below : (n : ℕ) → n ≤ span_limit → capped n ≡ n
 unfolding capped
@@ -52,31 +49,13 @@ pub capped_parts : (a b c : ℕ) → leb (capped (capped (capped (0 + a) + b) + 
 capped_parts a b c =
     rw (zero-add a, capped_add a b, capped_add (a + b) c, capped_test (a + b + c), add_assoc a b c)
 
--- ---- a loop that sums the absolute values of n numbers so: its sum after i of them
-pub record Capped (n : ℕ) (xs : List ℤ) (start i total : ℕ) : Type 0 where
-  pub within : i ≤ n
-  pub so_far : total ≡ capped (start + sum_abs (take i xs))
-
-pub capped_none : (n : ℕ) (xs : List ℤ) {start : ℕ} → start ≤ suc span_limit → Capped n xs start 0 start
-capped_none n xs {start} h =
-    record { within = omega arith; so_far = sym (capped_same start h) ∙ ap capped (sym (add-zero start)) }
-
-pub capped_more : {n : ℕ} {xs : List ℤ} {start i total next : ℕ} → Capped n xs start i total → i < n → length xs ≡ n
-    → next ≡ capped (total + nat_abs (at xs i)) → Capped n xs start (i + 1) next
-capped_more {n} {xs} {start} {i} {total} {next} s h long e =
-    record {
-      within = omega arith;
-      so_far =
-          e
-          ∙ rw (s.so_far, sum_abs_more xs i (omega arith))
-          (capped_add (start + sum_abs (take i xs)) (nat_abs (at xs i)) ∙ ap capped (add_assoc start (sum_abs (take i xs)) (nat_abs (at xs i))));
-    }
-
-pub capped_stays : {n : ℕ} {xs : List ℤ} {start i total : ℕ} → Capped n xs start i total → total ≤ suc span_limit
-capped_stays {n} {xs} {start} {i} s = rw s.so_far (capped_le (start + sum_abs (take i xs)))
-
-pub capped_all : {n : ℕ} {xs : List ℤ} {start i total : ℕ} → Capped n xs start i total → length xs ≡ n → n ≤ i → total ≡ capped (start + sum_abs xs)
-capped_all {n} {xs} {start} {i} s long h = s.so_far ∙ ap (λ m. capped (start + m)) (sum_abs_all xs i (omega arith))
+-- the absolute values of more numbers, stopped after each
+pub capped_fold : (start : ℕ) (xs : List ℤ) → start ≤ suc span_limit → fold (λ n z. capped (n + nat_abs z)) start xs ≡ capped (start + sum_abs xs)
+capped_fold start [] h = sym (capped_same start h) ∙ ap capped (sym (add-zero start))
+capped_fold start (x ∷ xs) h =
+    capped_fold (capped (start + nat_abs x)) xs (capped_le (start + nat_abs x))
+    ∙ capped_add (start + nat_abs x) (sum_abs xs)
+    ∙ ap capped (add_assoc start (nat_abs x) (sum_abs xs))
 
 pub capped_min : (n : ℕ) → min n (suc span_limit) ≡ capped n
 capped_min n =

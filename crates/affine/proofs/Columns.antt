@@ -8,16 +8,16 @@ use native.Mathlib.Numerals.{add-one}
 use native.Mathlib.Omega.{arith}
 use borrow.Author.Tests.{ltb-true, lt-ltb, le-ltb}
 use lib.IntN.{ℤ, pos, nat_abs}
-use lib.ListN.{length, set, replicate}
+use lib.ListN.{set, replicate}
 use Rattle.integer.specs.Sum.{sum_abs}
 use Rattle.affine.specs.Limits.{paired, pairs}
-use Rattle.affine.specs.Lists.{pick, at}
+use Rattle.affine.specs.Lists.{pick}
 use Rattle.affine.specs.PairOrder.{first_of, second_of, in_use, over_used}
 use Rattle.affine.proofs.Lists.{pick_elim, tabulate_cong, map_tabulate}
 use Rattle.affine.proofs.PairOrder.{first_le_second}
 use Rattle.affine.proofs.PairSymbols.{first_below, second_below}
 use Rattle.affine.proofs.PairIndex.{index_in, index_first, index_next, index_below, first_at_index, second_at_index, index_of_symbols}
-use Rattle.affine.proofs.PutSoFar.{partly, length_partly, partly_none, partly_same, partly_sum_within, below, Turn, turn_zero, turn_more, turn_sum_more}
+use Rattle.affine.proofs.PutSoFar.{partly, partly_none, partly_same, partly_sum_within, below, Turn, turn_more, turn_sum_more}
 
 -- ---- the place of a loop over the pairs of column j: its pair is that of symbols i and j, at index k, while i is not after j
 pub record AtPair (j i k : ℕ) : Type 0 where
@@ -37,10 +37,6 @@ at_next {j} {i} {k} h l here =
 pub at_symbols : {j i k : ℕ} → j < paired → i ≤ j → AtPair j i k → (k < pairs) × (first_of k ≡ i) × (second_of k ≡ j)
 at_symbols {j} {i} h l here = rw (here.place l) (index_below paired i j l h, first_at_index paired i j l h, second_at_index paired i j l h)
 
--- no other pair has the same symbols
-pub index_alone : {j i k : ℕ} → j < paired → i ≤ j → AtPair j i k → {m : ℕ} → m < pairs → first_of m ≡ i → second_of m ≡ j → m ≡ k
-index_alone {j} {i} {k} h l here {m} b e f = sym (index_of_symbols paired m b) ∙ ap₂ (index_in paired) e f ∙ sym (here.place l)
-
 -- ---- f at the pairs of the columns before j, and at the first i pairs of column j
 -- its place in this order, and whether it is passed
 abbrev columnwise : ℕ → ℕ
@@ -51,9 +47,6 @@ passed j i = below columnwise (paired * j + i)
 
 abbrev pub column : (ℕ → ℤ) → ℕ → ℕ → List ℤ
 column f j i = partly pairs (passed j i) f
-
-pub length_column : (f : ℕ → ℤ) (j i : ℕ) → length (column f j i) ≡ pairs
-length_column f j i = length_partly pairs (passed j i) f
 
 pub column_none : (f : ℕ → ℤ) (j : ℕ) → over_used j f ≡ column f j 0
 column_none f j =
@@ -75,9 +68,6 @@ module _ (f : ℕ → ℤ) {j i k : ℕ} (h : j < paired) (l : i ≤ j) (here : 
   next : paired * j + (i + 1) ≡ paired * j + i + 1
   next = omega arith
 
-  pub column_zero : at (column f j i) k ≡ pos 0
-  column_zero = turn_zero f column_turn
-
   pub column_more : set (column f j i) k (f k) ≡ column f j (i + 1)
   column_more = rw next (turn_more f column_turn)
 
@@ -98,6 +88,11 @@ column_sum_within f j i l =
 -- ---- whole columns
 pub used_none : (f : ℕ → ℤ) → replicate pairs (pos 0) ≡ over_used 0 f
 used_none f = partly_none pairs f (λ k. le-ltb (second_of k) 0 (omega arith))
+
+pub used_sum_within : (f : ℕ → ℤ) {j squares : ℕ} → j < squares → sum_abs (over_used (suc j) f) ≤ sum_abs (over_used squares f)
+used_sum_within f {j} {squares} h =
+    partly_sum_within pairs (in_use (suc j)) (in_use squares) f
+    (λ k t. lt-ltb (second_of k) squares (omega (arith, h, ltb-true (second_of k) (suc j) t)))
 
 pub map_used : (h : ℤ → ℤ) → h (pos 0) ≡ pos 0 → (squares : ℕ) (f : ℕ → ℤ) → map h (over_used squares f) ≡ over_used squares (λ k. h (f k))
 map_used h zero_kept squares f =

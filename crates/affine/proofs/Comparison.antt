@@ -1,60 +1,40 @@
--- The comparison of two lists of numbers, from an index on: what one pair of numbers tells of it.
-use mathlib.Core.Path.{◌≡◌, refl, sym, ap, ◌∙◌}
-use mathlib.Core.Bool.{true, false}
-use mathlib.Core.List.{List, []}
-use Prim.Native.Nat.{ℕ, ◌+◌, ◌^◌, ◌≤◌, ◌<◌}
-use native.Mathlib.Numerals.{add-one}
-use native.Mathlib.Omega.{arith}
+-- The comparison of two lists of numbers, of one length: all of them agree, pair by pair, where the definition says so.
+use mathlib.Core.Path.{◌≡◌, refl, ap, subst}
+use mathlib.Core.Bool.{Bool, true, false, ◌&&◌}
+use mathlib.Core.List.{List, [], ◌∷◌}
 use lib.IntN.{ℤ, pos, negsuc}
-use lib.ListN.{length, drop}
-use lib.Seq.{drop-cons, drop-length}
-use lib.Signed.{mag}
-use mir.Syntax.{w64}
-use mir.Val.{to_z, of_z}
-use borrow.Author.Tests.{eq-eqb, ne_eqb}
-use Rattle.integer.proofs.Machine.{back}
-use Rattle.affine.specs.Lists.{equal, at}
+use borrow.Author.Tests.{eq-eqb}
+use Rattle.std.specs.Ordering.{int_eq}
+use Rattle.std.specs.List.{list_all, zip}
+use lib.ListN.{length}
+use native.Mathlib.Omega.{arith}
+use Rattle.std.proofs.lemmas.Bool.{eqb-true, false≢true}
+use Rattle.std.proofs.lemmas.Bool.Decides.{Decides-int_eq, same_from_decides}
+use Rattle.affine.specs.Lists.{equal, pick}
 use Rattle.affine.specs.Row.{agree}
 
 pub equal_same : (x : ℤ) → equal x x ≡ true
 equal_same (pos n) = eq-eqb n n refl
 equal_same (negsuc n) = eq-eqb n n refl
 
-equal_other : (x y : ℤ) → (x ≡ y → ⊥) → equal x y ≡ false
-equal_other (pos m) (pos n) h = ne_eqb m n (λ e. h (ap pos e))
-equal_other (pos m) (negsuc n) h = refl
-equal_other (negsuc m) (pos n) h = refl
-equal_other (negsuc m) (negsuc n) h = ne_eqb m n (λ e. h (ap negsuc e))
+pub equal_true : (x y : ℤ) → equal x y ≡ true → x ≡ y
+equal_true (pos m) (pos n) e = ap pos (eqb-true m n e)
+equal_true (pos m) (negsuc n) e = absurd (false≢true e)
+equal_true (negsuc m) (pos n) e = absurd (false≢true e)
+equal_true (negsuc m) (negsuc n) e = ap negsuc (eqb-true m n e)
 
--- numbers of equal bits
-pub equal_of_bits : {x y : ℤ} → mag x < 2 ^ 63 → mag y < 2 ^ 63 → of_z w64 x ≡ of_z w64 y → x ≡ y
-equal_of_bits h k e = sym (back h) ∙ ap (to_z w64) e ∙ back k
+equal_is : (x y : ℤ) → int_eq x y ≡ equal x y
+equal_is x y =
+    same_from_decides (int_eq x y) (equal x y) (Decides-int_eq x y)
+    (equal_true x y, λ e. subst (λ z. equal x z ≡ true) e (equal_same x))
 
--- a loop that compares n numbers: the answer from the start is the answer from index i on
-pub record Agreeing (n : ℕ) (xs ys : List ℤ) (i : ℕ) : Type 0 where
-  pub within : i ≤ n
-  pub from_here : agree xs ys ≡ agree (drop i xs) (drop i ys)
+both_are : (a b : Bool) → (a && b) ≡ pick a b false
+both_are true b = refl
+both_are false b = refl
 
-pub agreeing_none : (n : ℕ) (xs ys : List ℤ) → Agreeing n xs ys 0
-agreeing_none n xs ys = record { within = omega arith; from_here = refl }
-
-module _ {n : ℕ} {xs ys : List ℤ} {i : ℕ} (s : Agreeing n xs ys i) (h : i < n) (long : length xs ≡ n) (long' : length ys ≡ n) where
-  pub agreeing_more : at xs i ≡ at ys i → Agreeing n xs ys (i + 1)
-  unfolding agree
-  agreeing_more e =
-      record {
-        within = omega arith;
-        from_here = s.from_here ∙ rw (add-one, drop-cons xs i (pos 0) (omega arith), drop-cons ys i (pos 0) (omega arith), e) (simp (equal_same (at ys i)));
-      }
-
-  pub agreeing_other : (at xs i ≡ at ys i → ⊥) → agree xs ys ≡ false
-  unfolding agree
-  agreeing_other e =
-      s.from_here ∙ rw (drop-cons xs i (pos 0) (omega arith), drop-cons ys i (pos 0) (omega arith)) (simp (equal_other (at xs i) (at ys i) e))
-
-drop_end : (xs : List ℤ) (i : ℕ) → i ≡ length xs → drop i xs ≡ []
-drop_end xs i e = rw e (drop-length xs)
-
-pub agreeing_all : {n : ℕ} {xs ys : List ℤ} {i : ℕ} → Agreeing n xs ys i → n ≤ i → length xs ≡ n → length ys ≡ n → agree xs ys ≡ true
+pub all_agree : (xs ys : List ℤ) → length xs ≡ length ys → list_all (λ p. int_eq p.0 p.1) (zip xs ys) ≡ agree xs ys
 unfolding agree
-agreeing_all {n} {xs} {ys} {i} s h long long' = s.from_here ∙ rw (drop_end xs i (omega arith), drop_end ys i (omega arith))
+all_agree [] [] e = refl
+all_agree [] (y ∷ ys) e = absurd (omega arith)
+all_agree (x ∷ xs) [] e = absurd (omega arith)
+all_agree (x ∷ xs) (y ∷ ys) e = rw (equal_is x y, all_agree xs ys (omega arith)) (both_are (equal x y) (agree xs ys))

@@ -15,9 +15,6 @@ use Rattle.affine.proofs.Lists.{map_tabulate}
 use Rattle.affine.proofs.Columns.{map_used}
 use Rattle.affine.proofs.Rounding.{product_rounds}
 
-abbrev pub quotients : List ℤ → List ℤ
-quotients t = map product_rounding.quotient t
-
 abbrev pub remainders : List ℤ → List ℤ
 remainders t = map product_rounding.remainder t
 

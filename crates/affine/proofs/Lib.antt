@@ -1,8 +1,7 @@
 pub mod Lists
-pub mod Fill
-pub mod Put
-pub mod ByIndexGiven
+pub mod Parted
 pub mod SumLaws
+pub mod Put
 pub mod PutSoFar
 pub mod CappedLaws
 pub mod Answers

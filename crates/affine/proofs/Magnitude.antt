@@ -1,9 +1,9 @@
 -- How large the numbers of a product get: each product of two numbers of the operands is used once, so that all totals and the dropped
 -- part together are at most span times span.
-use mathlib.Core.Path.{refl}
+use mathlib.Core.Path.{◌≡◌, refl}
 use mathlib.Core.Bool.{Bool, true, false}
 use mathlib.Core.List.{List}
-use Prim.Native.Nat.{ℕ, zero, suc, ◌+◌, ◌-◌, ◌*◌, ◌^◌, ◌≤◌, ◌<◌}
+use Prim.Native.Nat.{ℕ, zero, suc, ◌+◌, ◌-◌, ◌*◌, ◌≤◌, ◌<◌}
 use native.Mathlib.Nat.{le_refl, le_trans, mul_comm, mul-add, add-mul, mul-le-mul}
 use native.Mathlib.Omega.{arith}
 use borrow.Author.Tests.{ltb-true, lt-ltb, eq-eqb, ne_eqb}
@@ -12,7 +12,9 @@ use lib.IntN.{ℤ, pos, nat_abs, ◌+ℤ◌, ◌*ℤ◌}
 use lib.ListN.{take}
 use lib.Seq.{get_or-take}
 use mir.Syntax.{w64}
-use mir.Val.{SFits}
+use mir.Val.{SFits, to_z, of_z}
+use mir.ValLaws.{to_z-of_z}
+use Rattle.integer.proofs.Machine.{operation_gives}
 use Rattle.integer.proofs.Absolute.{nat_abs_add, nat_abs_mul, nat_abs_add_within, nat_abs_mul_within, fits_within}
 use Rattle.integer.specs.Sum.{sum_abs}
 use Rattle.integer.proofs.Sum.{sum_abs_append, sum_abs_take}
@@ -31,23 +33,32 @@ use Rattle.affine.proofs.SumLaws.{sum_abs_tabulate_at, sum_abs_tabulate_within}
 pub record TwoProducts (m n : ℕ) (a b c d : ℤ) : Type 0 where
   pub first : nat_abs (a *ℤ b) ≤ m * n
   pub both : nat_abs (a *ℤ b +ℤ c *ℤ d) ≤ 2 * (m * n)
-  pub first_fits : SFits w64 (a *ℤ b)
-  pub second_fits : SFits w64 (c *ℤ d)
-  pub both_fits : SFits w64 (a *ℤ b +ℤ c *ℤ d)
 
-pub two_products : (m n : ℕ) (a b c d : ℤ) → 2 * (m * n) < 2 ^ 63
-    → nat_abs a ≤ m → nat_abs b ≤ n → nat_abs c ≤ m → nat_abs d ≤ n → TwoProducts m n a b c d
-two_products m n a b c d h ha hb hc hd =
+pub two_products : (m n : ℕ) (a b c d : ℤ) → nat_abs a ≤ m → nat_abs b ≤ n → nat_abs c ≤ m → nat_abs d ≤ n → TwoProducts m n a b c d
+two_products m n a b c d ha hb hc hd =
     let p = nat_abs_mul_within a b ha hb in
     let q = nat_abs_mul_within c d hc hd in
-    let s : nat_abs (a *ℤ b +ℤ c *ℤ d) ≤ 2 * (m * n) = omega (arith, nat_abs_add_within (a *ℤ b) (c *ℤ d) p q) in
-    record {
-      first = p;
-      both = s;
-      first_fits = fits_within (a *ℤ b) (m * n) p (omega arith);
-      second_fits = fits_within (c *ℤ d) (m * n) q (omega arith);
-      both_fits = fits_within (a *ℤ b +ℤ c *ℤ d) (2 * (m * n)) s h;
-    }
+    record { first = p; both = omega (arith, nat_abs_add_within (a *ℤ b) (c *ℤ d) p q) }
+
+-- as the machine multiplies numbers within the span limit, and adds two products
+pub product_given : (a b : ℤ) → nat_abs a ≤ span_limit → nat_abs b ≤ span_limit
+    → to_z w64 (of_z w64 (to_z w64 (of_z w64 a) *ℤ to_z w64 (of_z w64 b))) ≡ a *ℤ b
+product_given a b ha hb =
+    operation_gives ◌*ℤ◌ (fits_within a span_limit ha (omega arith)) (fits_within b span_limit hb (omega arith))
+    (fits_within (a *ℤ b) (span_limit * span_limit) (nat_abs_mul_within a b ha hb) (omega arith))
+
+pub two_products_fit : (a b c d : ℤ) → nat_abs a ≤ span_limit → nat_abs b ≤ span_limit → nat_abs c ≤ span_limit → nat_abs d ≤ span_limit
+    → SFits w64 (a *ℤ b +ℤ c *ℤ d)
+two_products_fit a b c d ha hb hc hd =
+    fits_within (a *ℤ b +ℤ c *ℤ d) (2 * (span_limit * span_limit))
+    (two_products span_limit span_limit a b c d ha hb hc hd).both (omega arith)
+
+pub two_products_given : (a b c d : ℤ) → nat_abs a ≤ span_limit → nat_abs b ≤ span_limit → nat_abs c ≤ span_limit → nat_abs d ≤ span_limit
+    → to_z w64 (of_z w64 (a *ℤ b +ℤ c *ℤ d)) ≡ a *ℤ b +ℤ c *ℤ d
+two_products_given a b c d ha hb hc hd = to_z-of_z w64 _ (two_products_fit a b c d ha hb hc hd)
+
+pub mul_within : (a b m n : ℕ) → a ≤ m → b ≤ n → a * b ≤ m * n
+mul_within a b m n h k = mul-le-mul h k
 
 -- the first alone, or both
 one_or_both_within : {m n : ℕ} {a b c d : ℤ} (one : Bool) → TwoProducts m n a b c d
@@ -55,10 +66,10 @@ one_or_both_within : {m n : ℕ} {a b c d : ℤ} (one : Bool) → TwoProducts m 
 one_or_both_within true w = omega (arith, w.first)
 one_or_both_within false w = w.both
 
-pub meeting_within : {m n : ℕ} (a b : List ℤ) → 2 * (m * n) < 2 ^ 63 → ((i : ℕ) → nat_abs (at a i) ≤ m) → ((i : ℕ) → nat_abs (at b i) ≤ n)
+pub meeting_within : {m n : ℕ} (a b : List ℤ) → ((i : ℕ) → nat_abs (at a i) ≤ m) → ((i : ℕ) → nat_abs (at b i) ≤ n)
     → (i j : ℕ) → nat_abs (meeting a b i j) ≤ 2 * (m * n)
-meeting_within {m} {n} a b h ha hb i j =
-    one_or_both_within (eqb i j) (two_products m n (at a i) (at b j) (at a j) (at b i) h (ha i) (hb j) (ha j) (hb i))
+meeting_within {m} {n} a b ha hb i j =
+    one_or_both_within (eqb i j) (two_products m n (at a i) (at b j) (at a j) (at b i) (ha i) (hb j) (ha j) (hb i))
 
 -- one symbol more: its product with itself, those with the others, and the rest
 square_of_sums : (a u b v : ℕ) {x y z : ℕ} → x ≤ a * b → y ≤ a * v + b * u → z ≤ u * v → x + (y + z) ≤ (a + u) * (b + v)
@@ -172,9 +183,9 @@ module _ (squares : ℕ) (x y : Row) where
 pub pair_total_fits : (x y : Row) → span x ≤ span_limit → span y ≤ span_limit → (k : ℕ) → SFits w64 (pair_total x y k)
 pair_total_fits x y hx hy k =
     let w =
-    two_products span_limit span_limit x.centre (at y.pair k) y.centre (at x.pair k) (omega arith)
+    two_products span_limit span_limit x.centre (at y.pair k) y.centre (at x.pair k)
     (centre_within x hx) (pair_at_within y hy k) (centre_within y hy) (pair_at_within x hx k) in
-    let m = meeting_within x.linear y.linear (omega arith) (linear_at_within x hx) (linear_at_within y hy) (first_of k) (second_of k) in
+    let m = meeting_within x.linear y.linear (linear_at_within x hx) (linear_at_within y hy) (first_of k) (second_of k) in
     fits_within (pair_total x y k) (4 * (span_limit * span_limit))
     (nat_abs_add_within (crosswise x.centre (at y.pair k) y.centre (at x.pair k)) (meeting x.linear y.linear (first_of k) (second_of k)) w.both m) (omega arith)
 

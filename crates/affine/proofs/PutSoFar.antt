@@ -75,18 +75,12 @@ module _ {n : ℕ} {rank : ℕ → ℕ} {p k : ℕ} (f : ℕ → ℤ) (turn : Tu
 abbrev pub front : ℕ → (ℕ → ℤ) → ℕ → List ℤ
 front n f i = partly n (λ k. ltb k i) f
 
-pub length_front : (n : ℕ) (f : ℕ → ℤ) (i : ℕ) → length (front n f i) ≡ n
-length_front n f i = length_partly n (λ k. ltb k i) f
-
 pub front_none : (n : ℕ) (f : ℕ → ℤ) → replicate n (pos 0) ≡ front n f 0
 front_none n f = partly_none n f (λ k. le-ltb k 0 (omega arith))
 
 module _ (n : ℕ) (f : ℕ → ℤ) (i : ℕ) (h : i < n) where
   front_turn : Turn n (λ k. k) i i
   front_turn = record { inside = h; ranked = refl; alone = λ m l e. e }
-
-  pub front_zero : at (front n f i) i ≡ pos 0
-  front_zero = turn_zero f front_turn
 
   pub front_more : set (front n f i) i (f i) ≡ front n f (i + 1)
   front_more = turn_more f front_turn
@@ -95,9 +89,9 @@ module _ (n : ℕ) (f : ℕ → ℤ) (i : ℕ) (h : i < n) where
   front_sum_more = turn_sum_more f front_turn
 
 -- numbers that are 0 need not be put
-pub front_all : (n : ℕ) (f : ℕ → ℤ) (i : ℕ) → ((k : ℕ) → i ≤ k → f k ≡ pos 0) → front n f i ≡ tabulate n f
+pub front_all : (n : ℕ) (f : ℕ → ℤ) (i : ℕ) → ((k : ℕ) → i ≤ k → k < n → f k ≡ pos 0) → front n f i ≡ tabulate n f
 front_all n f i zeros =
-    tabulate_cong n (λ k h. pick_elim (λ z. z ≡ f k) (ltb k i) (f k) (pos 0) (λ t. refl) (λ t. sym (zeros k (ltb-false k i t))))
+    tabulate_cong n (λ k h. pick_elim (λ z. z ≡ f k) (ltb k i) (f k) (pos 0) (λ t. refl) (λ t. sym (zeros k (ltb-false k i t) h)))
 
 pub front_sum_none : (n : ℕ) (f : ℕ → ℤ) → sum_abs (front n f 0) ≡ 0
 front_sum_none n f = ap sum_abs (sym (front_none n f)) ∙ sum_abs_zeros n

@@ -8,14 +8,18 @@ use native.Mathlib.Omega.{arith}
 use lib.Dec.{leb-zero, leb-suc-suc}
 use lib.IntN.{ℤ, pos, negsuc, nat_abs, ◌+ℤ◌, ◌-ℤ◌}
 use lib.ListN.{length}
-use lib.Signed.{lt_z, ◌≤ℤ◌}
+use lib.Signed.{◌≤ℤ◌}
+use Rattle.std.specs.Int.{int_max}
 use Rattle.integer.specs.Sum.{sum_abs}
 use Rattle.integer.proofs.Ring.{con, ◌⊕◌, ◌⊖◌, neg}
 use Rattle.integer.proofs.Linear.{lin_ℤ, ◌⊴◌, ◌≗◌, ◌⇒◌, so}
 use Rattle.integer.proofs.Order.{pos-≤ℤ}
-use Rattle.integer.proofs.Absolute.{nat_abs_add, nat_abs_sub, nat_abs_sub_within}
+use mir.Syntax.{w64}
+use mir.Val.{SFits, to_z, of_z}
+use mir.ValLaws.{to_z-of_z}
+use Rattle.integer.proofs.Absolute.{nat_abs_add, nat_abs_sub, nat_abs_sub_within, fits_within}
 use Rattle.affine.specs.declared.Row.{Row}
-use Rattle.affine.specs.Limits.{paired, pairs}
+use Rattle.affine.specs.Limits.{pairs, span_limit}
 use Rattle.affine.specs.Lists.{pick, at, tabulate, sum}
 use Rattle.affine.specs.PairOrder.{over_pairs, firsts, seconds, is_square}
 use Rattle.affine.specs.Row.{pair_below, pair_above, pairs_below, pairs_above, span, low, high}
@@ -25,11 +29,11 @@ use Rattle.affine.proofs.SumLaws.{sum_tabulate_add, sum_tabulate_absolutes}
 use Rattle.affine.proofs.RowSize.{span_is_sum}
 
 -- ---- a pair (i,i): how far it goes above 0, by the test of the code, and its coefficient as what it goes above 0 less what it goes below it
-pub above_by_test : (v : ℤ) → square_reach true v ≡ pick (lt_z (pos 0) v) (nat_abs v) 0
+pub above_by_max : (v : ℤ) → int_max v (pos 0) ≡ pos (square_reach true v)
 unfolding pair_above
-above_by_test (pos zero) = refl
-above_by_test (pos (suc n)) = simp (leb-suc-suc 0 n, leb-zero n)
-above_by_test (negsuc n) = refl
+above_by_max (pos zero) = refl
+above_by_max (pos (suc n)) = simp (leb-suc-suc 0 n, leb-zero n)
+above_by_max (negsuc n) = refl
 
 above_less_below : (v : ℤ) → v ≡ pos (square_reach true v) -ℤ pos (square_reach false v)
 unfolding pair_above pair_below
@@ -91,19 +95,40 @@ pub balance_within : (p : List ℤ) → length p ≡ pairs → nat_abs (balance 
 balance_within p long =
     nat_abs_sub_within (pos (squares_reach true p)) (pos (squares_reach false p)) (squares_reach_within true p long) (squares_reach_within false p long)
 
+-- ---- the range around a centre c of a row whose coefficients sum to the radius, by what is left of that on each side
+pub record Around (c : ℤ) (radius : ℕ) (p : List ℤ) : Type 0 where
+  pub above_within : squares_reach true p ≤ radius
+  pub left : radius - squares_reach true p ≡ (radius - sum_abs p) + pairs_below p
+  pub turned_over : to_z w64 (of_z w64 (to_z w64 ((radius - sum_abs p) + pairs_below p) +ℤ to_z w64 (of_z w64 (balance p)))) ≡ pos ((radius - sum_abs p) + pairs_above p)
+  pub below_fits : SFits w64 (pos ((radius - sum_abs p) + pairs_below p))
+  pub low_fits : SFits w64 (c -ℤ pos ((radius - sum_abs p) + pairs_below p))
+  pub high_fits : SFits w64 (c +ℤ pos ((radius - sum_abs p) + pairs_above p))
+
+pub around : (c : ℤ) (radius : ℕ) (p : List ℤ) → (length p ≡ pairs) × (sum_abs p ≤ radius) × (nat_abs c + radius ≤ span_limit) → Around c radius p
+around c radius p (long, inside, within) =
+    let down = reach_and_squares false p long in
+    let up = reach_and_squares true p long in
+    let below = (radius - sum_abs p) + pairs_below p in
+    let above = (radius - sum_abs p) + pairs_above p in
+    let fits : SFits w64 (pos below) = fits_within (pos below) span_limit (omega arith) (omega arith) in
+    let balanced : SFits w64 (balance p) = fits_within _ (span_limit + span_limit) (omega (arith, balance_within p long)) (omega arith) in
+    record {
+      above_within = omega arith;
+      left = omega arith;
+      turned_over =
+          rw (to_z-of_z w64 (pos below) fits, to_z-of_z w64 (balance p) balanced, below_to_above (radius - sum_abs p) p long)
+          (to_z-of_z w64 (pos above) (fits_within (pos above) span_limit (omega arith) (omega arith)));
+      below_fits = fits;
+      low_fits = fits_within _ span_limit (omega (arith, nat_abs_sub c (pos below))) (omega arith);
+      high_fits = fits_within _ span_limit (omega (arith, nat_abs_add c (pos above))) (omega arith);
+    }
+
 -- ---- a loop over the pairs (i,i): left symbols to come, the first of which has its pair at index k, and the sum so far
 pub record Passed (above : Bool) (p : List ℤ) (total k left : ℕ) : Type 0 where
   pub place : k + pair_count left ≡ pairs
   pub rest : total + squares_from above p left k ≡ squares_reach above p
 
-pub passed_none : (above : Bool) (p : List ℤ) → Passed above p 0 0 paired
-passed_none above p = record { place = refl; rest = omega arith }
-
 module _ {above : Bool} {p : List ℤ} {total k : ℕ} where
-  pub passed_index : (left : ℕ) → Passed above p total k left → 0 < left → k < pairs
-  passed_index zero s h = absurd (omega arith)
-  passed_index (suc n) s h = omega (arith, s.place)
-
   pub passed_more : (left : ℕ) → Passed above p total k left → 0 < left → {m : ℕ} → m ≡ square_reach above (at p k) → Passed above p (total + m) (k + left) (left - 1)
   unfolding squares_from
   passed_more zero s h e = absurd (omega arith)
@@ -114,10 +139,6 @@ module _ {above : Bool} {p : List ℤ} {total k : ℕ} where
   -- so the sum does not wrap
   pub passed_within : {left : ℕ} → Passed above p total k left → length p ≡ pairs → total ≤ sum_abs p
   passed_within s long = omega (arith, s.rest, squares_reach_within above p long)
-
-  pub passed_next : (left : ℕ) → Passed above p total k left → k + left ≤ pairs
-  passed_next zero s = omega (arith, s.place)
-  passed_next (suc n) s = omega (arith, s.place)
 
   pub passed_all : (left : ℕ) → Passed above p total k left → left ≤ 0 → total ≡ squares_reach above p
   unfolding squares_from
@@ -130,9 +151,6 @@ pub record Balanced (p : List ℤ) (above : ℕ) (sum : ℤ) (k left : ℕ) : Ty
   pub over : Passed true p above k left
   pub under : Passed false p below k left
   pub so_far : sum ≡ pos above -ℤ pos below
-
-pub balanced_none : (p : List ℤ) → Balanced p 0 (pos 0) 0 paired
-balanced_none p = record { below = 0; over = passed_none true p; under = passed_none false p; so_far = refl }
 
 module _ {p : List ℤ} {above : ℕ} {sum : ℤ} {k : ℕ} where
   pub balanced_more : (left : ℕ) → Balanced p above sum k left → 0 < left → {m : ℕ} → m ≡ square_reach true (at p k)

@@ -8,7 +8,10 @@ use lib.IntN.{ℤ, pos, negsuc, nat_abs, ◌*ℤ◌, *ℤ-zero}
 use lib.Signed.{◌≤ℤ◌}
 use Rattle.integer.specs.Root.{root}
 use Rattle.integer.specs.Sum.{sum_abs}
-use Rattle.integer.proofs.Absolute.{nat_abs_mul_within}
+use mir.Syntax.{w64}
+use mir.Val.{SFits, to_z, of_z}
+use mir.ValLaws.{to_z-of_z}
+use Rattle.integer.proofs.Absolute.{nat_abs_mul_within, fits_within}
 use Rattle.integer.proofs.Floor.{nat_abs_quotient, zero_quotient}
 use Rattle.integer.proofs.Order.{pos-≤ℤ, ≤_of_pos}
 use Rattle.integer.proofs.RootLaws.{is_root, below_of_squares}
@@ -74,6 +77,15 @@ half_unit_within v h = nat_abs_mul_within (pos half_unit) v (omega arith) h
 
 pub root_slope_within : (z : ℕ) (v : ℤ) → nat_abs (root_slope z v) ≤ half_unit * nat_abs v
 root_slope_within z v = omega (arith, nat_abs_quotient (pos half_unit *ℤ v) (pos z), half_unit_within v (le_refl (nat_abs v)))
+
+pub half_unit_given : (v : ℤ) → nat_abs v ≤ span_limit
+    → to_z w64 (of_z w64 (pos half_unit *ℤ to_z w64 (of_z w64 v))) ≡ pos half_unit *ℤ v
+half_unit_given v h =
+    rw (to_z-of_z w64 v (fits_within v span_limit h (omega arith)))
+    (to_z-of_z w64 _ (fits_within (pos half_unit *ℤ v) (half_unit * span_limit) (half_unit_within v h) (omega arith)))
+
+pub root_slope_fits : (z : ℕ) (v : ℤ) → nat_abs v ≤ span_limit → SFits w64 (root_slope z v)
+root_slope_fits z v h = fits_within (root_slope z v) (half_unit * span_limit) (omega (arith, root_slope_within z v)) (omega arith)
 
 -- ---- its span
 slopes_within : (z n : ℕ) (a : List ℤ) → sum_abs (tabulate n (λ i. root_slope z (at a i))) ≤ half_unit * sum_abs a

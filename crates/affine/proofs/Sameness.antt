@@ -3,22 +3,15 @@ use mathlib.Core.Path.{◌≡◌, refl, sym, ap, ap₂, ◌∙◌}
 use mathlib.Core.Logic.{◌↔◌}
 use mathlib.Core.Bool.{Bool, true, false}
 use mathlib.Core.List.{List, [], ◌∷◌, ◌++◌}
-use borrow.Author.Tests.{eqb-true}
-use lib.IntN.{ℤ, pos, negsuc}
+use lib.IntN.{ℤ}
 use lib.ListN.{take, drop}
 use lib.Seq.{take_at, drop_at}
 use Rattle.affine.specs.declared.Row.{Row}
 use Rattle.affine.specs.Limits.{symbols}
 use Rattle.affine.specs.Lists.{pick, equal}
 use Rattle.affine.specs.Row.{numbers, agree, same}
-use Rattle.affine.proofs.Comparison.{equal_same}
+use Rattle.affine.proofs.Comparison.{equal_same, equal_true}
 use Rattle.affine.proofs.Form.{Shaped}
-
-equal_sound : (x y : ℤ) → equal x y ≡ true → x ≡ y
-equal_sound (pos m) (pos n) e = ap pos (eqb-true m n e)
-equal_sound (pos m) (negsuc n) e = cc
-equal_sound (negsuc m) (pos n) e = cc
-equal_sound (negsuc m) (negsuc n) e = ap negsuc (eqb-true m n e)
 
 agree_sound : (xs ys : List ℤ) → agree xs ys ≡ true → xs ≡ ys
 unfolding agree
@@ -28,7 +21,7 @@ agree_sound (x ∷ xs) [] e = cc
 agree_sound (x ∷ xs) (y ∷ ys) e = by_test (equal x y) refl e (λ h. agree_sound xs ys h)
   where
     by_test : (t : Bool) → equal x y ≡ t → pick t (agree xs ys) false ≡ true → (agree xs ys ≡ true → xs ≡ ys) → x ∷ xs ≡ y ∷ ys
-    by_test true q e h = ap₂ (λ z zs. z ∷ zs) (equal_sound x y q) (h e)
+    by_test true q e h = ap₂ (λ z zs. z ∷ zs) (equal_true x y q) (h e)
     by_test false q e h = cc
 
 agree_refl : (xs : List ℤ) → agree xs xs ≡ true

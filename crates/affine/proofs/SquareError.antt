@@ -2,17 +2,17 @@
 -- a row that uses only pairs in use.
 use mathlib.Core.Path.{◌≡◌, refl, sym, ap, ap₂, ◌∙◌}
 use mathlib.Core.Bool.{Bool, true, false}
-use mathlib.Core.List.{[]}
-use Prim.Native.Nat.{ℕ, ◌+◌, ◌*◌, ◌≤◌}
+use Prim.Native.Nat.{ℕ, ◌+◌, ◌-◌, ◌*◌, ◌^◌, ◌≤◌, ◌<◌}
 use native.Mathlib.Omega.{arith}
 use lib.IntN.{ℤ, pos, nat_abs, ◌*ℤ◌}
 use Rattle.integer.specs.Sum.{sum_abs}
 use Rattle.integer.proofs.Absolute.{nat_abs_mul, nat_abs_sub}
+use lib.ListN.{take}
 use Rattle.affine.specs.declared.Row.{Row}
-use Rattle.affine.specs.Limits.{symbols, pairs, unit}
+use Rattle.affine.specs.Limits.{symbols, pairs, unit, span_limit}
 use Rattle.affine.specs.Lists.{pick, at, tabulate}
-use Rattle.affine.specs.PairOrder.{in_use}
-use Rattle.affine.specs.Row.{span, row_of_parts, NoneFrom}
+use Rattle.affine.specs.PairOrder.{in_use, over_used}
+use Rattle.affine.specs.Row.{span, radius, NoneFrom}
 use Rattle.affine.specs.Steps.{zip_rows}
 use Rattle.affine.specs.Product.{linear_total, linear_totals, pair_total, pair_totals, totals, dropped}
 use Rattle.affine.specs.Root.{missed, linear_miss, linear_misses, pair_miss, pair_misses, misses, square_error}
@@ -21,7 +21,7 @@ use Rattle.affine.proofs.Form.{UsesOnly}
 use Rattle.affine.proofs.RowSize.{span_is_sum}
 use Rattle.affine.proofs.SumLaws.{sum_abs_tabulate_at, sum_abs_tabulate_within}
 use Rattle.affine.proofs.Magnitude.{totals_within}
-use Rattle.affine.proofs.Totals.{linear_total_none}
+use Rattle.affine.proofs.Totals.{linear_total_none, dropped_of_radii}
 
 -- ---- what one total misses: at most 4096 times the operand's number and the total
 pub missed_within : (v t : ℤ) → nat_abs (missed v t) ≤ unit * nat_abs v + nat_abs t
@@ -36,18 +36,7 @@ used_missed_within false v t = omega arith
 pub linear_miss_none : (x z : Row) (own : ℕ) → NoneFrom own x.linear → NoneFrom own z.linear → (i : ℕ) → own ≤ i → linear_miss x z i ≡ pos 0
 linear_miss_none x z own hx hz i l = ap₂ missed (hx i l) (linear_total_none z z own hz hz i l)
 
--- ---- what all totals miss: from the parts of both rows
-module _ (x z : Row) {d : ℤ} (e : d ≡ z.centre) where
-  pub linear_misses_of_parts : linear_misses (row_of_parts (pos 0) x.linear []) (row_of_parts d z.linear []) ≡ linear_misses x z
-  unfolding linear_misses
-  linear_misses_of_parts = ap (λ d. linear_misses x (row_of_parts d z.linear [])) e
-
-  pub pair_misses_of_parts : (squares : ℕ)
-      → pair_misses squares (row_of_parts (pos 0) [] x.pair) (row_of_parts d z.linear z.pair) ≡ pair_misses squares x z
-  unfolding pair_misses
-  pair_misses_of_parts squares = ap (λ d. pair_misses squares x (row_of_parts d z.linear z.pair)) e
-
--- and from the sums of the operand's numbers and the totals
+-- ---- what all totals miss: from the sums of the operand's numbers and the totals
 linear_misses_within : (x z : Row) → sum_abs (linear_misses x z) ≤ unit * sum_abs x.linear + sum_abs (linear_totals z z)
 unfolding linear_misses linear_totals
 linear_misses_within x z =
@@ -112,7 +101,23 @@ module _ (squares : ℕ) (x z : Row) (ux : UsesOnly squares x) where
   pub misses_of_totals : misses squares x z ≡ zip_rows missed x (totals squares z z)
   misses_of_totals = λ i. record { centre = missed x.centre (z.centre *ℤ z.centre); linear = linear_missed i; pair = pair_missed_of_totals i }
 
--- what all totals miss, without the dropped part
-pub misses_within : (squares : ℕ) (x z : Row) {n : ℕ} → span x ≤ n → span z ≤ n → span (misses squares x z) ≤ n * n + unit * n
-unfolding square_error
-misses_within squares x z hx hz = let h = square_error_within squares x z hx hz in omega arith
+-- ---- the bound as code comes to it: c, l and p are what the totals miss in absolute values, d is the dropped part
+module _ (x z : Row) (hx : span x ≤ span_limit) (hz : span z ≤ span_limit) where
+  pub linear_small : sum_abs (tabulate symbols (linear_miss x z)) < 2 ^ 64
+  unfolding linear_misses square_error
+  linear_small = let h = square_error_within 0 x z hx hz in omega (arith, square_error_is_sum 0 x z)
+
+  pub pair_small : (squares : ℕ) → sum_abs (over_used squares (pair_miss x z)) < 2 ^ 64
+  unfolding pair_misses square_error
+  pair_small squares = let h = square_error_within squares x z hx hz in omega (arith, square_error_is_sum squares x z)
+
+  pub error_is : (squares : ℕ) {n c l p d : ℕ} → n ≡ radius z → c ≡ nat_abs (missed x.centre (z.centre *ℤ z.centre))
+      → l ≡ sum_abs (tabulate symbols (linear_miss x z)) → p ≡ sum_abs (over_used squares (pair_miss x z))
+      → d ≡ n * n - sum_abs (take squares z.linear) * sum_abs (take squares z.linear)
+      → c + l + p + d ≡ square_error squares x z
+  unfolding linear_misses pair_misses
+  error_is squares nz ec el ep ed =
+      ap₂ ◌+◌ (ap₂ ◌+◌ (ap₂ ◌+◌ ec el) ep) (ed ∙ dropped_of_radii squares z z nz nz) ∙ square_error_is_sum squares x z
+
+  pub error_small : (squares : ℕ) {n : ℕ} → n ≡ square_error squares x z → n ≤ span_limit * span_limit + unit * span_limit
+  error_small squares e = rw e (square_error_within squares x z hx hz)

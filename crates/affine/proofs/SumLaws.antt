@@ -1,43 +1,13 @@
 -- Sums over a list: one element more, no part above the whole, numbers by index, a number changed. By induction on the list.
-use mathlib.Core.Path.{◌≡◌, refl, ap, ap₂, ◌∙◌}
+use mathlib.Core.Path.{◌≡◌, refl, ap, ap₂}
 use mathlib.Core.List.{List, [], ◌∷◌, map}
 use Prim.Native.Nat.{ℕ, zero, suc, ◌+◌, ◌*◌, ◌≤◌, ◌<◌}
 use native.Mathlib.Nat.{mul-add, mul-suc}
 use native.Mathlib.Omega.{arith}
 use lib.IntN.{ℤ, pos, nat_abs}
-use lib.ListN.{length, length-map, take, set, replicate}
+use lib.ListN.{length, set, replicate}
 use Rattle.integer.specs.Sum.{sum_abs}
-use Rattle.integer.proofs.Sum.{sum_abs_more, sum_abs_take}
 use Rattle.affine.specs.Lists.{at, tabulate, sum}
-
--- after all elements
-pub sum_abs_all : (xs : List ℤ) (n : ℕ) → length xs ≤ n → sum_abs (take n xs) ≡ sum_abs xs
-sum_abs_all [] zero h = refl
-sum_abs_all [] (suc n) h = refl
-sum_abs_all (x ∷ xs) zero h = absurd (omega arith)
-sum_abs_all (x ∷ xs) (suc n) h = ap (λ m. nat_abs x + m) (sum_abs_all xs n (omega arith))
-
--- ---- a loop that sums the absolute values of the first n numbers: its sum after i of them
-pub record Summed (n : ℕ) (xs : List ℤ) (i total : ℕ) : Type 0 where
-  pub within : i ≤ n
-  pub so_far : total ≡ sum_abs (take i xs)
-
-pub summed_none : (n : ℕ) (xs : List ℤ) → Summed n xs 0 0
-summed_none n xs = record { within = omega arith; so_far = refl }
-
-module _ {n : ℕ} {xs : List ℤ} {i total m : ℕ} (s : Summed n xs i total) (h : i < n) (long : n ≤ length xs) (e : m ≡ nat_abs (at xs i)) where
-  pub summed_more : Summed n xs (i + 1) (total + m)
-  summed_more = record { within = omega arith; so_far = rw (sum_abs_more xs i (omega arith), s.so_far, e) }
-
-  -- so the sum does not wrap where the whole fits
-  pub summed_within : total + m ≤ sum_abs xs
-  summed_within = let t = sum_abs_take (i + 1) xs in omega (arith, summed_more.so_far)
-
-pub summed_all : {n : ℕ} {xs : List ℤ} {i total : ℕ} → Summed n xs i total → n ≤ i → total ≡ sum_abs (take n xs)
-summed_all {n} {xs} {i} s h = let e : i ≡ n = omega arith in rw e at s.so_far
-
-pub summed_whole : {n : ℕ} {xs : List ℤ} {i total : ℕ} → Summed n xs i total → n ≤ i → length xs ≡ n → total ≡ sum_abs xs
-summed_whole {n} {xs} s h long = summed_all s h ∙ sum_abs_all xs n (omega arith)
 
 -- ---- sums of natural numbers f 0, f 1 and so on: two of them, term by term
 pub sum_tabulate_add : (n : ℕ) (f g : ℕ → ℕ) → sum (tabulate n f) + sum (tabulate n g) ≡ sum (tabulate n (λ i. f i + g i))
@@ -101,13 +71,3 @@ sum_abs_map f h (x ∷ xs) = let rest = sum_abs_map f h xs in omega (arith, h x)
 pub sum_abs_zeros : (n : ℕ) → sum_abs (replicate n (pos 0)) ≡ 0
 sum_abs_zeros zero = refl
 sum_abs_zeros (suc n) = let rest = sum_abs_zeros n in omega arith
-
--- ---- a function of each number
-at_map_lt : (f : ℤ → ℤ) (xs : List ℤ) (i : ℕ) → i < length xs → at (map f xs) i ≡ f (at xs i)
-at_map_lt f [] i h = absurd (omega arith)
-at_map_lt f (x ∷ xs) zero h = refl
-at_map_lt f (x ∷ xs) (suc i) h = at_map_lt f xs i (omega arith)
-
-pub sum_abs_map_more : (f : ℤ → ℤ) (xs : List ℤ) (i : ℕ) → i < length xs
-    → sum_abs (take (i + 1) (map f xs)) ≡ sum_abs (take i (map f xs)) + nat_abs (f (at xs i))
-sum_abs_map_more f xs i h = rw (← (at_map_lt f xs i h)) (sum_abs_more (map f xs) i (omega (arith, length-map xs f)))

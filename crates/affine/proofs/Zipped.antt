@@ -1,17 +1,18 @@
 -- A row made of two, number by number, from what each of its numbers is; and its span.
 use mathlib.Core.Path.{◌≡◌, sym, ◌∙◌}
 use mathlib.Core.List.{List}
-use Prim.Native.Nat.{ℕ, ◌+◌, ◌≤◌, ◌<◌, ◌^◌}
+use Prim.Native.Nat.{ℕ, ◌≤◌, ◌<◌, ◌^◌}
 use native.Mathlib.Omega.{arith}
-use lib.IntN.{ℤ, nat_abs}
+use lib.IntN.{ℤ, ◌+ℤ◌, ◌-ℤ◌}
 use lib.ListN.{length}
 use Rattle.affine.specs.declared.Row.{Row}
 use Rattle.affine.specs.Limits.{symbols, pairs, span_limit}
 use Rattle.affine.specs.Lists.{at, tabulate}
 use Rattle.affine.specs.Row.{span}
-use Rattle.affine.specs.Steps.{zip_rows}
+use Rattle.affine.specs.Steps.{zip_rows, add_rows, subtract_rows}
+use Rattle.integer.proofs.Absolute.{nat_abs_add, nat_abs_sub}
 use Rattle.affine.proofs.Lists.{tabulate_at, tabulate_cong}
-use Rattle.affine.proofs.SpanSize.{span_as, span_zip}
+use Rattle.affine.proofs.SpanSize.{span_zip}
 
 zipped_list : (op : ℤ → ℤ → ℤ) (n : ℕ) (xs a b : List ℤ) → length xs ≡ n → ((i : ℕ) → i < n → at xs i ≡ op (at a i) (at b i))
     → xs ≡ tabulate n (λ i. op (at a i) (at b i))
@@ -28,5 +29,9 @@ module _ (op : ℤ → ℤ → ℤ) (x y r : Row) (centre : r.centre ≡ op x.ce
         pair = zipped_list op pairs r.pair x.pair y.pair pairs_long pair i;
       }
 
-  pub zipped_span : ((v w : ℤ) → nat_abs (op v w) ≤ nat_abs v + nat_abs w) → span x ≤ span_limit → span y ≤ span_limit → span r < 2 ^ 64
-  zipped_span triangle hx hy = span_as zipped (omega (arith, span_zip op triangle x y, hx, hy))
+-- the span of a sum, and of a difference
+pub sum_spans : (x y : Row) → span x ≤ span_limit → span y ≤ span_limit → span (add_rows x y) < 2 ^ 64
+sum_spans x y hx hy = omega (arith, span_zip ◌+ℤ◌ nat_abs_add x y, hx, hy)
+
+pub difference_spans : (x y : Row) → span x ≤ span_limit → span y ≤ span_limit → span (subtract_rows x y) < 2 ^ 64
+difference_spans x y hx hy = omega (arith, span_zip ◌-ℤ◌ nat_abs_sub x y, hx, hy)

@@ -1,6 +1,7 @@
 pub mod Limits
 pub mod Lists
 pub mod PairOrder
+pub mod ByIndex
 pub mod Row
 pub mod Answer
 pub mod Steps

@@ -9,11 +9,12 @@ use crate::limits::{PAIRED, PAIRS, SPAN_LIMIT};
 use crate::sums::absolutes;
 use crate::{Range, Row};
 
-// How far the term of a pair (i,i), whose product is never negative, goes above 0. By the sign, as the definition: with `max` the proof stays open.
+// How far the term of a pair (i,i), whose product is never negative, goes above 0.
+#[tactic(auto, using(crate::proofs::RangeSize::above_by_max))]
 fn square_above(v: i64) -> u64
     ensures { result ≡ square_reach true v }
 {
-    if v > 0 { v as u64 } else { 0 }
+    v.max(0) as u64
 }
 
 // How far the terms of all pairs (i,i) go above 0, and the sum of their coefficients: what they go above 0 less what they go below it.
@@ -58,14 +59,14 @@ fn range_around(c: i64, radius: u64, p: &[i64; PAIRS]) -> Range
 
 // The radius of a row within the span limit, and the range of its form.
 #[derive(Clone, Copy)]
-pub struct Size {
+pub(crate) struct Size {
     pub radius: u64,
     pub range: Range,
 }
 
 // The span test of a row whose span does not wrap: one sum of the absolute values serves the test, the radius and the range.
 #[inline(never)]
-pub fn measure(row: &Row) -> Option<Size>
+pub(crate) fn measure(row: &Row) -> Option<Size>
     requires { span row.now < 2 ^ 64 }
     ensures { result ≡ measured row.now }
 {

@@ -8,6 +8,7 @@ mod form_range;
 pub mod limits;
 pub mod operands;
 pub mod product;
+mod quotient;
 pub mod reciprocal;
 pub mod root;
 pub mod steps;

@@ -1,22 +1,23 @@
 // The product of two rows.
-ghost use Rattle.std.specs.Prelude.{◌≡◌, map, ℕ, ◌-◌, ◌*◌, ◌≤◌, ◌<◌, pos, nat_abs, ◌+ℤ◌, ◌*ℤ◌, length, take, set, replicate};
+ghost use Rattle.std.specs.Prelude.{◌≡◌, [], ℕ, ◌-◌, ◌*◌, ◌≤◌, ◌<◌, nat_abs, ◌+ℤ◌, ◌*ℤ◌, length, take};
 ghost use Rattle.integer.specs.Sum.{sum_abs};
-ghost use Rattle.affine.specs.Limits.{symbols, pairs, paired, span_limit};
+ghost use Rattle.affine.specs.Limits.{symbols, paired, span_limit};
 ghost use Rattle.affine.specs.Lists.{at, pick};
-ghost use Rattle.affine.specs.PairOrder.{first_of, second_of};
-ghost use Rattle.affine.specs.Row.{span, NoneFrom};
-ghost use Rattle.affine.specs.Product.{meeting, crosswise, linear_total, pair_total, totals, product_rounding, product};
-ghost use Rattle.affine.specs.Steps.{map_row};
+ghost use Rattle.affine.specs.Row.{span, row_of_parts, NoneFrom};
+ghost use Rattle.affine.specs.Product.{meeting, crosswise, linear_total, pair_total, product_rounding, product};
 ghost use Rattle.affine.specs.Told.{answer_of};
 
-use crate::by_index::{front, pairs_in_use};
+use crate::by_index::{Part, put_front, put_pairs_in_use};
 use crate::limits::{SYMBOLS, UNIT};
-use crate::operands::{Operand, Symbols};
-use crate::steps::check_with_own;
+use crate::operands::{Operand, Pair, Symbols};
+use crate::steps::{check_with_own, constant_row};
+use crate::sums::absolutes;
 use crate::{Made, NoRow, Row};
 use integer::division::{ceiling_quotient, nearest_quotient_4096, nearest_remainder_4096};
 
 // c times the second row's number plus d times the first's, from the centres c and d and the numbers b of the second row and a of the first.
+// Bounds of numbers and of indices stand in clauses, here and in the other files: a struct for each would hold one number and have no method.
+#[tactic(auto, using(crate::proofs::Magnitude::product_given, crate::proofs::Magnitude::two_products_fit, crate::proofs::Magnitude::two_products_given))]
 fn crosswise_total(c: i64, b: i64, d: i64, a: i64) -> i64
     requires { (nat_abs c ≤ span_limit) × (nat_abs b ≤ span_limit) × (nat_abs d ≤ span_limit) × (nat_abs a ≤ span_limit) }
     ensures { result ≡ crosswise c b d a }
@@ -24,15 +25,35 @@ fn crosswise_total(c: i64, b: i64, d: i64, a: i64) -> i64
     c * b + d * a
 }
 
-// The total of the symbol at index i.
-pub fn linear_total(x: &Row, y: &Row, i: usize) -> i64
+// The total of the symbol at index i, from the centres c and d and the linear coefficients a and b of two rows. By parts, as callers outside have them: two rows
+// would ask more, their pairs.
+pub fn linear_total<'a, 'b>(
+    c: i64,
+    a: &'a [i64; SYMBOLS],
+    d: i64,
+    b: &'b [i64; SYMBOLS],
+    i: usize,
+) -> i64
+    requires i_lt_symbols { i < symbols }
+    requires a_bound { (span (row_of_parts c a.now []) ≤ span_limit) × (span (row_of_parts d b.now []) ≤ span_limit) }
+    ensures { result ≡ linear_total (row_of_parts c a.now []) (row_of_parts d b.now []) i }
+{
+    crosswise_total(c, b[i], d, a[i])
+}
+
+// The same of two rows. Their spans stand in clauses here and below: a struct that lends a row with its span was tried, and the check does not cover a call
+// with two of it.
+#[inline]
+pub(crate) fn symbol_total(x: &Row, y: &Row, i: usize) -> i64
     requires { (i < symbols) × (span x.now ≤ span_limit) × (span y.now ≤ span_limit) }
     ensures { result ≡ linear_total x.now y.now i }
 {
-    crosswise_total(x.centre, y.linear[i], y.centre, x.linear[i])
+    linear_total(x.centre, &x.linear, y.centre, &y.linear, i)
 }
 
 // The products of linear coefficients that meet in a pair; square: in a pair (i,i).
+// Apart from `meeting_at`, with a flag: with the test there, its two products by `crosswise_total` or not, reciprocals take 3 to 5 in 1000 more instructions.
+#[tactic(auto, using(crate::proofs::Magnitude::product_given, crate::proofs::Magnitude::two_products_fit, crate::proofs::Magnitude::two_products_given))]
 fn meeting_products(ai: i64, bj: i64, aj: i64, bi: i64, square: bool) -> i64
     requires { (nat_abs ai ≤ span_limit) × (nat_abs bj ≤ span_limit) × (nat_abs aj ≤ span_limit) × (nat_abs bi ≤ span_limit) }
     ensures { result ≡ pick square (ai *ℤ bj) (ai *ℤ bj +ℤ aj *ℤ bi) }
@@ -53,76 +74,29 @@ pub fn meeting_at(a: &[i64; SYMBOLS], b: &[i64; SYMBOLS], i: usize, j: usize) ->
     meeting_products(ai, bj, aj, bi, i == j)
 }
 
-// The total of the pair of symbols i and j, which stands at index k: crosswise as of a symbol, plus the products that meet in the pair.
-pub fn pair_total(x: &Row, y: &Row, i: usize, j: usize, k: usize) -> i64
-    requires k_lt_pairs { (k < pairs) × (first_of k ≡ i) × (second_of k ≡ j) }
-    requires within { (span x.now ≤ span_limit) × (span y.now ≤ span_limit) }
-    ensures { result ≡ pair_total x.now y.now k }
+// The total of a pair: crosswise as of a symbol, plus the products that meet in the pair.
+pub fn pair_total(x: &Row, y: &Row, p: Pair) -> i64
+    requires { (span x.now ≤ span_limit) × (span y.now ≤ span_limit) }
+    ensures { result ≡ pair_total x.now y.now p.index }
 {
-    crosswise_total(x.centre, y.pair[k], y.centre, x.pair[k])
-        + meeting_at(&x.linear, &y.linear, i, j)
-}
-
-// The totals of two rows, of which neither has a coefficient from the own symbol on.
-#[inline]
-pub fn totals(x: &Row, y: &Row, symbols: Symbols) -> Row
-    requires none { NoneFrom symbols.own x.now.linear × NoneFrom symbols.own y.now.linear }
-    requires within { (span x.now ≤ span_limit) × (span y.now ≤ span_limit) }
-    ensures { result ≡ totals symbols.squares x.now y.now }
-{
-    Row {
-        centre: x.centre * y.centre,
-        linear: front(symbols.own, |i| linear_total(x, y, i)),
-        pair: pairs_in_use(symbols.squares, |i, j, k| pair_total(x, y, i, j, k)),
-    }
+    crosswise_total(x.centre, y.pair[p.index], y.centre, x.pair[p.index])
+        + meeting_at(&x.linear, &y.linear, p.first, p.second)
 }
 
 // The quotient of a total, and the absolute remainder that it leaves.
-#[derive(Clone, Copy)]
-struct Divided {
-    quotient: i64,
-    remainder: u64,
-}
-
-fn divide_total(t: i64) -> Divided
-    ensures quotient { result.quotient ≡ product_rounding.quotient t }
-    ensures remainder { result.remainder ≡ nat_abs (product_rounding.remainder t) }
+#[inline]
+fn divided(total: i64) -> Part
+    ensures quotient { result.number ≡ product_rounding.quotient total }
+    ensures remainder { result.rest ≡ nat_abs (product_rounding.remainder total) }
 {
-    Divided {
-        quotient: nearest_quotient_4096(t),
-        remainder: nearest_remainder_4096(t),
+    Part {
+        number: nearest_quotient_4096(total),
+        rest: nearest_remainder_4096(total),
     }
 }
 
-// Divides totals where they stand, and answers the sum of the absolute remainders.
-#[inline]
-fn divide(totals: &mut [i64]) -> u64
-    requires { length totals.old ≤ symbols }
-    ensures quotients { totals.new ≡ map product_rounding.quotient totals.old }
-    ensures remainders { result ≡ sum_abs (map product_rounding.remainder totals.old) }
-{
-    let mut remainders: u64 = 0;
-    // an index: of what an iterator writes through a slice no proof knows the values
-    for i in 0..totals.len() {
-        let d = divide_total(totals[i]);
-        totals[i] = d.quotient;
-        remainders += d.remainder;
-    }
-    remainders
-}
-
-// Divides all totals of two rows.
-#[inline]
-fn divide_row(totals: &mut Row) -> u64
-    ensures quotients { totals.new ≡ map_row product_rounding.quotient totals.old }
-    ensures remainders { result ≡ span (map_row product_rounding.remainder totals.old) }
-{
-    let centre = divide_total(totals.centre);
-    totals.centre = centre.quotient;
-    centre.remainder + divide(&mut totals.linear) + divide(&mut totals.pair)
-}
-
-// The radii multiplied, less the same of the first "squares" symbols alone.
+// The radii multiplied, less the same of the first "squares" symbols alone. Two operands in the place of their parts would ask more of callers: the pairs.
+#[tactic(auto, using(integer::proofs::Sum::sum_abs_take, crate::proofs::Magnitude::mul_within))]
 pub fn dropped_part<'a, 'b>(
     a: &'a [i64; SYMBOLS],
     a_radius: u64,
@@ -135,25 +109,28 @@ pub fn dropped_part<'a, 'b>(
     requires b_len { (length b.now ≡ symbols) × (sum_abs b.now ≤ b_radius) × (b_radius ≤ span_limit) }
     ensures { result ≡ a_radius * b_radius - sum_abs (take squares a.now) * sum_abs (take squares b.now) }
 {
-    let s = &a[..];
-    let t = &b[..];
-    let kept = crate::sums::absolutes(&s[0..squares]) * crate::sums::absolutes(&t[0..squares]);
-    a_radius * b_radius - kept
+    a_radius * b_radius - absolutes(&a[..squares]) * absolutes(&b[..squares])
 }
 
-// The product of two rows. Each total is formed from the two rows as they are, in the new row, and divided there.
+// The product of two rows. Each total is formed from the two rows as they are, in its place in the new row, and divided at once.
 pub fn multiply(x: Operand, y: Operand, symbols: Symbols) -> Result<Made, NoRow>
     requires { NoneFrom symbols.own x.row.linear × NoneFrom symbols.own y.row.linear }
     ensures { answer_of result ≡ product symbols.squares symbols.own x.row y.row }
 {
-    let mut row = totals(&x.row, &y.row, symbols);
-    let dropped = dropped_part(
-        &x.row.linear,
-        x.radius,
-        &y.row.linear,
-        y.radius,
-        symbols.squares,
+    let (a, b) = (&x.row, &y.row);
+    let centre = divided(a.centre * b.centre);
+    let mut row = constant_row(centre.number);
+    let linear = put_front(
+        &mut row.linear,
+        symbols.own,
+        |i| divided(symbol_total(a, b, i)),
     );
-    let error = dropped + divide_row(&mut row);
+    let pair = put_pairs_in_use(
+        &mut row.pair,
+        symbols.squares,
+        |p| divided(pair_total(a, b, p)),
+    );
+    let dropped = dropped_part(&a.linear, x.radius, &b.linear, y.radius, symbols.squares);
+    let error = dropped + centre.rest + linear + pair;
     check_with_own(row, symbols.own, ceiling_quotient(error, UNIT))
 }

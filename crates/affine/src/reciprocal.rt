@@ -1,56 +1,54 @@
 // The reciprocal of a row.
-ghost use Rattle.std.specs.Prelude.{◌≡◌, ◌*◌, ◌≤◌, ◌<◌, neg_ℤ, nat_abs, ◌+ℤ◌};
+ghost use Rattle.std.specs.Prelude.{◌≡◌, ◌*◌, ◌≤◌, ◌<◌, neg_ℤ, nat_abs, ◌+ℤ◌, length};
 ghost use Rattle.integer.specs.Floor.{floor_quotient};
 ghost use Rattle.integer.specs.Sum.{sum_abs};
-ghost use Rattle.affine.specs.Limits.{symbols, pairs, unit_squared, span_limit};
+ghost use Rattle.affine.specs.Limits.{symbols, unit_squared, span_limit};
 ghost use Rattle.affine.specs.Lists.{at};
-ghost use Rattle.affine.specs.PairOrder.{first_of, second_of};
 ghost use Rattle.affine.specs.Row.{span, radius, NoneFrom};
 ghost use Rattle.affine.specs.Reciprocal.{slope, candidate_linear, curve, candidate, error_bound, reciprocal_apart, reciprocal, ApartOutweighs};
 ghost use Rattle.affine.specs.Told.{answer_of};
 
-use crate::by_index::{front, pairs_in_use};
+use crate::by_index::{Part, put_front, put_pairs_in_use};
 use crate::form_range::measure;
 use crate::limits::{SYMBOLS, UNIT_SQUARED};
-use crate::operands::{Operand, Symbols};
-use crate::product::{dropped_part, meeting_at, totals};
-use crate::steps::check_with_own;
-use crate::sums::span;
+use crate::operands::{Operand, Pair, Symbols};
+use crate::product::{dropped_part, meeting_at, pair_total, symbol_total};
+use crate::quotient::quotient_unless_zero;
+use crate::steps::{check_with_own, constant_row};
 use crate::{Made, NoRow, Range, Row};
 use integer::division::{ceiling_quotient, floor_quotient};
 
-// A coefficient of the candidate: minus N times the operand's, divided by the square of the centre c. 0 is not divided.
+// A coefficient of the candidate: minus N times the operand's, divided by the square of the centre c. The centre's bounds stand in the clauses of four functions: a
+// struct of one number and two facts, made for each candidate, would be no plainer.
+#[tactic(auto, using(crate::proofs::Magnitude::product_given, crate::proofs::CandidateSize::top_given, crate::proofs::CandidateSize::slope_fits))]
 fn candidate_slope(c: i64, v: i64) -> i64
     requires { (nat_abs c ≤ span_limit) × (nat_abs v ≤ span_limit) × (0 < nat_abs c) }
     ensures { result ≡ slope c v }
 {
-    if v == 0 {
-        return 0;
-    }
-    floor_quotient(-UNIT_SQUARED * v, c * c)
+    quotient_unless_zero(-UNIT_SQUARED * v, c * c)
 }
 
 // The candidate's coefficient of the symbol at index i.
-fn linear_slope(x: &Row, i: usize) -> i64
-    requires { (i < symbols) × (span x.now ≤ span_limit) × (0 < nat_abs x.now.centre) }
-    ensures { result ≡ slope x.now.centre (at x.now.linear i) }
+fn linear_slope(c: i64, linear: &[i64; SYMBOLS], i: usize) -> i64
+    requires within { (i < symbols) × (nat_abs c ≤ span_limit) × (0 < nat_abs c) }
+    requires linear_within { (length linear.now ≡ symbols) × (sum_abs linear.now ≤ span_limit) }
+    ensures { result ≡ slope c (at linear.now i) }
 {
-    candidate_slope(x.centre, x.linear[i])
+    candidate_slope(c, linear[i])
 }
 
-// The products that meet in a pair, with the sign turned and divided by the centre c. 0 is not divided.
+// The products that meet in a pair, with the sign turned and divided by the centre c.
+#[tactic(auto, using(crate::proofs::CandidateSize::turned_given, crate::proofs::CandidateSize::bend_fits))]
 fn candidate_bend(c: i64, met: i64) -> i64
     requires { (nat_abs c ≤ span_limit) × (0 < nat_abs c) × (nat_abs met ≤ 2 * (unit_squared * span_limit)) }
     ensures { result ≡ floor_quotient (neg_ℤ met) c }
 {
-    if met == 0 {
-        return 0;
-    }
-    floor_quotient(-met, c)
+    quotient_unless_zero(-met, c)
 }
 
 // A pair coefficient of the candidate: the slope's part, and that of the products of the candidate's and the operand's coefficients that meet
 // in the pair.
+#[tactic(auto, using(crate::proofs::CandidateSize::curve_fits))]
 fn candidate_curve(c: i64, p: i64, met: i64) -> i64
     requires { (nat_abs c ≤ span_limit) × (nat_abs p ≤ span_limit) × (0 < nat_abs c) × (nat_abs met ≤ 2 * (unit_squared * span_limit)) }
     ensures { result ≡ slope c p +ℤ floor_quotient (neg_ℤ met) c }
@@ -58,23 +56,18 @@ fn candidate_curve(c: i64, p: i64, met: i64) -> i64
     candidate_slope(c, p) + candidate_bend(c, met)
 }
 
-// The candidate's coefficient of the pair of symbols i and j, at index k, from its linear coefficients.
-fn pair_curve(x: &Row, linear: &[i64; SYMBOLS], i: usize, j: usize, k: usize) -> i64
-    requires k_lt_pairs { (k < pairs) × (first_of k ≡ i) × (second_of k ≡ j) × (linear.now ≡ candidate_linear x.now) }
+// The candidate's coefficient of a pair, from its linear coefficients. That the centre outweighs these stands in clauses here and below: a struct would own
+// the row, which is then copied, or lend it, which the check does not cover where two are passed.
+fn pair_curve(x: &Row, linear: &[i64; SYMBOLS], p: Pair) -> i64
+    requires candidate { linear.now ≡ candidate_linear x.now }
     requires outweighs { (span x.now ≤ span_limit) × (0 < nat_abs x.now.centre) × (sum_abs x.now.linear ≤ nat_abs x.now.centre) }
-    ensures { result ≡ curve x.now k }
+    ensures { result ≡ curve x.now p.index }
 {
-    candidate_curve(x.centre, x.pair[k], meeting_at(linear, &x.linear, i, j))
-}
-
-// The candidate's coefficients of all symbols.
-#[inline]
-fn candidate_linear(x: &Row, own: usize) -> [i64; SYMBOLS]
-    requires none { (own ≤ symbols) × NoneFrom own x.now.linear }
-    requires within { (span x.now ≤ span_limit) × (0 < nat_abs x.now.centre) }
-    ensures { result ≡ candidate_linear x.now }
-{
-    front(own, |i| linear_slope(x, i))
+    candidate_curve(
+        x.centre,
+        x.pair[p.index],
+        meeting_at(linear, &x.linear, p.first, p.second),
+    )
 }
 
 // The candidate for the reciprocal of a row whose centre is not 0 and no smaller than the linear coefficients, none of them from the own symbol on.
@@ -84,24 +77,44 @@ fn candidate(x: &Row, symbols: Symbols) -> Row
     requires outweighs { (span x.now ≤ span_limit) × (0 < nat_abs x.now.centre) × (sum_abs x.now.linear ≤ nat_abs x.now.centre) }
     ensures { result ≡ candidate symbols.squares x.now }
 {
-    let linear = candidate_linear(x, symbols.own);
-    let pair = pairs_in_use(symbols.squares, |i, j, k| pair_curve(x, &linear, i, j, k));
-    Row {
-        centre: floor_quotient(UNIT_SQUARED, x.centre),
-        linear,
-        pair,
-    }
+    let c = x.centre;
+    let mut row = constant_row(floor_quotient(UNIT_SQUARED, c));
+    let z = &mut row;
+    put_front(
+        &mut z.linear,
+        symbols.own,
+        |i| Part::exact(linear_slope(c, &x.linear, i)),
+    );
+    let linear = &z.linear;
+    put_pairs_in_use(
+        &mut z.pair,
+        symbols.squares,
+        |p| Part::exact(pair_curve(x, linear, p)),
+    );
+    row
 }
 
-// A bound of operand times candidate less 1, in units of 1 over N.
+// A bound of operand times candidate less 1, in units of 1 over N. The candidate is lent with its radius: an `Operand` of it would copy the row, by 4 in 100
+// more instructions of a reciprocal. The totals are put into a row that is not read again: functions that sum alone would be twins of those that put and sum.
 #[inline]
 fn error_bound(x: &Operand, z: &Row, z_radius: u64, symbols: Symbols) -> u64
     requires none { NoneFrom symbols.own x.now.row.linear × NoneFrom symbols.own z.now.linear }
     requires within { (span z.now ≤ span_limit) × (z_radius ≡ radius z.now) }
     ensures { result ≡ error_bound symbols.squares x.now.row z.now }
 {
-    let mut totals = totals(&x.row, z, symbols);
-    totals.centre -= UNIT_SQUARED;
+    let a = &x.row;
+    let centre = Part::whole(a.centre * z.centre - UNIT_SQUARED);
+    let mut totals = constant_row(0);
+    let linear = put_front(
+        &mut totals.linear,
+        symbols.own,
+        |i| Part::whole(symbol_total(a, z, i)),
+    );
+    let pair = put_pairs_in_use(
+        &mut totals.pair,
+        symbols.squares,
+        |p| Part::whole(pair_total(a, z, p)),
+    );
     let dropped = dropped_part(
         &x.row.linear,
         x.radius,
@@ -109,7 +122,7 @@ fn error_bound(x: &Operand, z: &Row, z_radius: u64, symbols: Symbols) -> u64
         z_radius,
         symbols.squares,
     );
-    span(&totals) + dropped
+    centre.rest + linear + pair + dropped
 }
 
 // The reciprocal of a row whose range lies at a distance from 0.
@@ -119,9 +132,7 @@ fn reciprocal_apart(x: &Operand, distance: u64, symbols: Symbols) -> Result<Made
     ensures { answer_of result ≡ reciprocal_apart symbols.squares symbols.own x.now.row distance }
 {
     let z = candidate(&x.row, symbols);
-    let Some(size) = measure(&z) else {
-        return Err(NoRow::SpanPassed);
-    };
+    let size = measure(&z).ok_or(NoRow::SpanPassed)?;
     let bound = error_bound(x, &z, size.radius, symbols);
     check_with_own(z, symbols.own, ceiling_quotient(bound, distance))
 }

@@ -1,13 +1,11 @@
 // The rows of inputs, constants, sums and differences.
-ghost use Rattle.std.specs.Prelude.{ℕ, ◌≡◌, ◌+◌, ◌^◌, ◌≤◌, ◌<◌, pos, nat_abs, ◌+ℤ◌, ◌-ℤ◌, length};
-ghost use Rattle.integer.specs.Sum.{sum_abs};
-ghost use Rattle.affine.specs.Limits.{symbols, pairs, span_limit};
-ghost use Rattle.affine.specs.Answer.{SpanPassed};
-ghost use Rattle.affine.specs.Lists.{pick, at, tabulate};
-ghost use Rattle.affine.specs.Row.{span, radius};
-ghost use Rattle.affine.specs.Steps.{constant_row, with_own, add_rows, subtract_rows, accepted, refused, checked, input_answer};
+ghost use Rattle.std.specs.Prelude.{ℤ, ◌≡◌, ◌+◌, ◌^◌, ◌≤◌, ◌<◌, pos, nat_abs, ◌+ℤ◌, ◌-ℤ◌};
+ghost use Rattle.affine.specs.Limits.{symbols, span_limit};
+ghost use Rattle.affine.specs.Row.{span};
+ghost use Rattle.affine.specs.Steps.{constant_row, with_own, add_rows, subtract_rows, zip_rows, checked, input_answer};
 ghost use Rattle.affine.specs.Told.{answer_of};
 
+use crate::by_index::each;
 use crate::form_range::measure;
 use crate::limits::{PAIRS, SPAN_LIMIT, SYMBOLS};
 use crate::{Made, NoRow, Range, Row};
@@ -28,19 +26,18 @@ pub fn check(row: Row) -> Result<Made, NoRow>
     requires { span row < 2 ^ 64 }
     ensures { answer_of result ≡ checked row }
 {
-    match measure(&row) {
-        Some(size) => Ok(Made {
-            row,
-            radius: size.radius,
-            range: size.range,
-        }),
-        None => Err(NoRow::SpanPassed),
-    }
+    let size = measure(&row).ok_or(NoRow::SpanPassed)?;
+    Ok(Made {
+        row,
+        radius: size.radius,
+        range: size.range,
+    })
 }
 
 // A row with its own coefficient as the answer, by its span.
 #[inline]
-pub fn check_with_own(row: Row, own: usize, coefficient: u64) -> Result<Made, NoRow>
+#[tactic(auto, using(crate::proofs::SpanSize::span_own))]
+pub(crate) fn check_with_own(row: Row, own: usize, coefficient: u64) -> Result<Made, NoRow>
     requires { (own < symbols) × (span row + coefficient < 2 ^ 63) }
     ensures { answer_of result ≡ checked (with_own own (pos coefficient) row) }
 {
@@ -49,11 +46,11 @@ pub fn check_with_own(row: Row, own: usize, coefficient: u64) -> Result<Made, No
     check(owned)
 }
 
+#[tactic(auto, using(crate::proofs::SpanSize::constant_spans))]
 pub fn constant(v: i64) -> Result<Made, NoRow>
     ensures { answer_of result ≡ checked (constant_row v) }
 {
-    let row = constant_row(v);
-    check(row)
+    check(constant_row(v))
 }
 
 // The row of an input that owns the symbol at index own; its range is its ends. It has one coefficient, so nothing is summed.
@@ -76,7 +73,20 @@ pub fn input(own: usize, low: i64, high: i64) -> Result<Made, NoRow>
     })
 }
 
-// The sum and the difference of two numbers of rows within the span limit.
+// The row that f makes of two, number by number: that of an operation, where f gives what the operation does.
+fn zip_rows<F: Fn(i64, i64) -> i64>(x: &Row, y: &Row, f: F) -> Row
+    requires callable { (v w : ℤ) → nat_abs v ≤ span_limit → nat_abs w ≤ span_limit → F.pre f v w }
+    requires within { (span x.now ≤ span_limit) × (span y.now ≤ span_limit) }
+    ensures zipped { (op : ℤ → ℤ → ℤ) → ((v w z : ℤ) → F.post f v w z → z ≡ op v w) → result ≡ zip_rows op x.now y.now }
+{
+    Row {
+        centre: f(x.centre, y.centre),
+        linear: each(|i| f(x.linear[i], y.linear[i])),
+        pair: each(|k| f(x.pair[k], y.pair[k])),
+    }
+}
+
+// The sum and the difference of two numbers of rows within the span limit. Named: with `|v, w| v + w` in their place the proofs of `add` and `subtract` stay open.
 fn sum_of(v: i64, w: i64) -> i64
     requires { (nat_abs v ≤ span_limit) × (nat_abs w ≤ span_limit) }
     ensures { result ≡ v +ℤ w }
@@ -91,26 +101,12 @@ fn difference_of(v: i64, w: i64) -> i64
     v - w
 }
 
-// Puts what f makes of two lists' numbers.
-fn put_each<F: Fn(i64, i64) -> i64>(out: &mut [i64], a: &[i64], b: &[i64], f: F)
-    requires long { (length a.now ≡ length out.old) × (length b.now ≡ length out.old) }
-    requires callable { (i : ℕ) → i < length out.old → F.pre f (at a.now i) (at b.now i) }
-    ensures given { (i : ℕ) → i < length out.old → F.post f (at a.now i) (at b.now i) (at out.new i) }
-    ensures kept { length out.new ≡ length out.old }
-{
-    for i in 0..out.len() {
-        out[i] = f(a[i], b[i]);
-    }
-}
-
+// A sum and a difference are one function with another operation. The spans stand in clauses, as of a root: an `Operand` would ask more of callers, the radius.
 pub fn add(x: Row, y: Row) -> Result<Made, NoRow>
     requires { (span x ≤ span_limit) × (span y ≤ span_limit) }
     ensures { answer_of result ≡ checked (add_rows x y) }
 {
-    let mut row = constant_row(sum_of(x.centre, y.centre));
-    put_each(&mut row.linear, &x.linear, &y.linear, sum_of);
-    put_each(&mut row.pair, &x.pair, &y.pair, sum_of);
-    check(row)
+    check(zip_rows(&x, &y, sum_of))
 }
 
 // The second row taken from the first.
@@ -118,8 +114,5 @@ pub fn subtract(x: Row, y: Row) -> Result<Made, NoRow>
     requires { (span x ≤ span_limit) × (span y ≤ span_limit) }
     ensures { answer_of result ≡ checked (subtract_rows x y) }
 {
-    let mut row = constant_row(difference_of(x.centre, y.centre));
-    put_each(&mut row.linear, &x.linear, &y.linear, difference_of);
-    put_each(&mut row.pair, &x.pair, &y.pair, difference_of);
-    check(row)
+    check(zip_rows(&x, &y, difference_of))
 }

@@ -3,8 +3,9 @@
 #![tactic(auto)]
 
 use affine::Range;
+use evaluation::table::{RANGE_WIDTH, ROW_WIDTH};
 use sheet::{MAX_BYTES, MAX_INPUTS, MAX_STEPS, Refused};
-use std::io;
+use std::{io, str};
 
 const MOST_TURNS: usize = 10000000;
 
@@ -12,20 +13,25 @@ const MOST_DIGITS: usize = 8;
 // The count's line, and one byte more than a sheet may have: that a sheet is longer is noticed.
 const ROOM: usize = MOST_DIGITS + 1 + MAX_BYTES + 1;
 
+// Tables for as many rows as a sheet may have. In ranges too: `evaluation` has the widths, and takes tables of any length.
 const ROWS: usize = MAX_INPUTS + MAX_STEPS;
-// 52 numbers for each row, and two for each range.
-const TABLE_NUMBERS: usize = 52 * ROWS;
 
-const RANGES_NUMBERS: usize = 2 * ROWS;
+const TABLE_NUMBERS: usize = ROW_WIDTH * ROWS;
 
-// The range of a sheet's last row after so many evaluations.
+const RANGES_NUMBERS: usize = RANGE_WIDTH * ROWS;
+
+// The range of a sheet's last row after so many evaluations. Not inlined: what is measured is compiled by itself, whatever stands around it in `main`.
+#[inline(never)]
 fn last_range(sheet: &[u8], turns: usize) -> Result<Range, Refused> {
     let schedule = sheet::read(sheet)?;
     let mut table = [0i64; TABLE_NUMBERS];
     let mut ranges = [0i64; RANGES_NUMBERS];
+    // a refused sheet is evaluated as often
+    let mut answer = Ok(());
     for _ in 0..turns {
-        evaluation::evaluate(schedule, &mut table, &mut ranges)?;
+        answer = evaluation::evaluate(schedule, &mut table, &mut ranges);
     }
+    answer?;
     let last = evaluation::row_count(schedule);
     evaluation::range(&table, &ranges, last, last)
 }
@@ -33,23 +39,17 @@ fn last_range(sheet: &[u8], turns: usize) -> Result<Range, Refused> {
 fn print_last(rt: &impl Print, sheet: &[u8], turns: usize) -> io::Result<()> {
     match last_range(sheet, turns) {
         Ok(range) => println!(rt; "{turns} {} {}", range.low, range.high),
-        Err(refused) => println!(rt; "refused {} {}", refused.cause.number(), refused.place),
+        Err(refused) => println!(rt; "refused {refused}"),
     }
 }
 
-// The count that so many digits spell, and nothing but digits.
+// The count that so many digits spell, and nothing but digits. Why there is none is not told, so an error is none.
 fn count_of(digits: &[u8]) -> Option<usize> {
-    if digits.is_empty() || MOST_DIGITS < digits.len() {
+    if MOST_DIGITS < digits.len() || !digits.iter().all(u8::is_ascii_digit) {
         return None;
     }
-    let mut count: usize = 0;
-    for &b in digits {
-        count = count * 10 + sheet::digit(b)? as usize;
-        if MOST_TURNS < count {
-            return None;
-        }
-    }
-    Some(count)
+    let count = str::from_utf8(digits).ok()?.parse().ok()?;
+    (count <= MOST_TURNS).then_some(count)
 }
 
 // The count in the first line, and the sheet behind it.

@@ -3,7 +3,7 @@ use mathlib.Core.Path.{◌≡◌, refl, sym, ap, ap₂, ◌∙◌, subst}
 use mathlib.Core.Bool.{Bool, true, false}
 use mathlib.Core.List.{List}
 use Prim.Native.Nat.{ℕ, ◌-◌, ◌*◌, ◌≤◌, min, max}
-use native.Mathlib.Nat.{min-eq_left, min-eq_right, max-eq_left, max-eq_right}
+use native.Mathlib.Nat.{min-eq_left, max-eq_right}
 use native.Mathlib.Omega.{arith}
 use borrow.Author.Tests.{eq-eqb, ne_eqb, eqb-true, le-leb, leb-true}
 use lib.Dec.{T, eqb, leb}
@@ -14,14 +14,16 @@ use Rattle.affine.specs.Limits.{symbols, span_limit}
 use Rattle.affine.specs.Lists.{pick}
 use Rattle.affine.specs.Row.{span, within_span}
 use Rattle.affine.proofs.Lists.{pick_elim}
+use Rattle.std.specs.Prelude.{Result, Ok, Err, IfOk, IsErrAnd}
 use Rattle.sheet.specs.declared.causes.Refused.{Refused}
+use Rattle.sheet.specs.declared.causes.Cause.{Cause}
 use Rattle.sheet.specs.Answers.{Refusal}
-use Rattle.sheet.specs.Results.{refusal_of}
+use Rattle.sheet.specs.Results.{number, refusal_of, tested, ensured}
 use Rattle.sheet.proofs.Results.{number_some}
 use Rattle.sheet.specs.Causes.{refusal, accepted}
 use Rattle.evaluation.specs.Table.{row_width, range_width, row_part, row_at, range_at, RowsWithin, RangesOrdered}
 use Rattle.evaluation.specs.Work.{table_too_short}
-use Rattle.evaluation.specs.Asking.{is_row, lent_row, lent_range, table_refusal, ranges_refusal, or_else, row_refusal, range_refusal, rows_refusal, range_told, range_of, compared, same_of, part_of}
+use Rattle.evaluation.specs.Asking.{no_such_row, is_row, lent_row, lent_range, table_refusal, ranges_refusal, or_else, row_refusal, range_refusal, rows_refusal, range_told, range_of, compared, same_of, part_of}
 
 -- ---- tests one after another
 both_true : (s t : Bool) → pick s t false ≡ true → (s ≡ true) × (t ≡ true)
@@ -48,6 +50,27 @@ stops r {q} s e = refused_answer q s (λ t. t) e (number_some r.cause)
 pub goes_on : {q : Refusal} (s : Refusal) → accepted ≡ q → s ≡ or_else q s
 goes_on {q} s e = told_answer q s q e refl
 
+-- the same of a result, where a test before it stopped
+pub stop_told : (r : Result (Unit {0}) Refused) (f : Refused) {q : Refusal} (s : Refusal) → IsErrAnd r (λ e. e ≡ f) → refusal_of f ≡ q → tested r ≡ or_else q s
+stop_told (Ok u) f s h e = absurd h
+stop_told (Err r) f s h e = ap refusal_of h ∙ stops f s e
+
+-- what a test answers by `ensure`
+pub tested_ensured : (passes : Bool) (c : Cause) (place : ℕ) → tested (ensured passes c place) ≡ pick passes accepted (refusal (number c) place)
+tested_ensured true c place = refl
+tested_ensured false c place = refl
+
+ok_ensured : (passes : Bool) (c : Cause) (place : ℕ) {P : Type 0} → (passes ≡ true → P) → IfOk (ensured passes c place) (λ u. P)
+ok_ensured true c place f = f refl
+ok_ensured false c place f = tt
+
+-- a chain of tests, read from either end
+or_else_chain : (q r s : Refusal) → or_else (or_else q r) s ≡ or_else q (or_else r s)
+or_else_chain q r s =
+    pick_elim (λ (t : Refusal). or_else t s ≡ or_else q (or_else r s)) (eqb q.number 0) r q
+    (λ e. simp e refl)
+    (λ e. simp e refl)
+
 -- accepted after both
 record Both (r s t : Refusal) : Type 0 where
   pub first : r.number ≡ 0
@@ -69,7 +92,7 @@ record TableAccepted (table : List ℤ) (count : ℕ) (known : Bool) : Type 0 wh
 table_accepted : (table : List ℤ) (count : ℕ) (known : Bool) → (table_refusal table count known).number ≡ 0 → TableAccepted table count known
 table_accepted table count known h = by_tests (pick known (leb count symbols) false) (leb (row_width * count) (length table)) refl refl
   where
-    by_tests : (named roomy : Bool) → pick known (leb count symbols) false ≡ named → leb (row_width * count) (length table) ≡ roomy
+    by_tests : (named room_refusal : Bool) → pick known (leb count symbols) false ≡ named → leb (row_width * count) (length table) ≡ room_refusal
         → TableAccepted table count known
     by_tests true true e q =
         let b = both_true known (leb count symbols) e in
@@ -77,6 +100,61 @@ table_accepted table count known h = by_tests (pick known (leb count symbols) fa
     by_tests true false e q = absurd (let z = simp (e, q) at h in omega arith)
     by_tests false true e q = absurd (let z = simp (e, q) at h in omega arith)
     by_tests false false e q = absurd (let z = simp (e, q) at h in omega arith)
+
+-- 9 by one test of each row, and 8 by one of a table's room
+abbrev pub named_refusal : ℕ → ℕ → Refusal
+named_refusal count row = pick (pick (is_row count row) (leb count symbols) false) accepted no_such_row
+
+abbrev pub room_refusal : ℕ → List ℤ → ℕ → Refusal
+room_refusal width table count = pick (leb (width * count) (length table)) accepted table_too_short
+
+pub ensured_named : (count row : ℕ) (c : Cause) (place : ℕ)
+    → IfOk (ensured (pick (is_row count row) (leb count symbols) false) c place) (λ u. (1 ≤ row) × (row ≤ count) × (count ≤ symbols))
+ensured_named count row c place =
+    ok_ensured (pick (is_row count row) (leb count symbols) false) c place
+    (λ e. let a = both_true (is_row count row) (leb count symbols) e in let b = both_true (leb 1 row) (leb row count) a.0 in (leb-true 1 row b.0, leb-true row count b.1, leb-true count symbols a.1))
+
+pub ensured_room : (numbers long : ℕ) (c : Cause) (place : ℕ) → IfOk (ensured (leb numbers long) c place) (λ u. numbers ≤ long)
+ensured_room numbers long c place = ok_ensured (leb numbers long) c place (λ e. leb-true numbers long e)
+
+one_named : (known few : Bool) (r : Refusal)
+    → or_else (pick (pick known few false) accepted no_such_row) r ≡ pick (pick known few false) r no_such_row
+one_named true true r = refl
+one_named true false r = refl
+one_named false few r = refl
+
+both_named : (a b few : Bool) (r : Refusal)
+    → or_else (pick (pick a few false) accepted no_such_row) (or_else (pick (pick b few false) accepted no_such_row) r) ≡ pick (pick (pick a b false) few false) r no_such_row
+both_named true true true r = refl
+both_named true true false r = refl
+both_named true false true r = refl
+both_named true false false r = refl
+both_named false b few r = refl
+
+pub row_tests : (table : List ℤ) (count row : ℕ) → or_else (named_refusal count row) (or_else (room_refusal row_width table count) (lent_row table row)) ≡ row_refusal table count row
+unfolding row_refusal
+row_tests table count row =
+    sym (or_else_chain (named_refusal count row) (room_refusal row_width table count) (lent_row table row))
+    ∙ ap (λ t. or_else t (lent_row table row)) (one_named (is_row count row) (leb count symbols) (room_refusal row_width table count))
+
+pub range_tests : (table ranges : List ℤ) (count row : ℕ)
+    → or_else (named_refusal count row) (or_else (room_refusal row_width table count) (or_else (room_refusal range_width ranges count) (or_else (lent_row table row) (lent_range ranges row))))
+    ≡ range_refusal table ranges count row
+unfolding range_refusal
+range_tests table ranges count row =
+    let rest = or_else (ranges_refusal ranges count) (or_else (lent_row table row) (lent_range ranges row)) in
+    sym (or_else_chain (named_refusal count row) (room_refusal row_width table count) rest)
+    ∙ ap (λ t. or_else t rest) (one_named (is_row count row) (leb count symbols) (room_refusal row_width table count))
+
+pub rows_tests : (table : List ℤ) (count first second : ℕ)
+    → or_else (named_refusal count first) (or_else (named_refusal count second) (or_else (room_refusal row_width table count) (or_else (lent_row table (min first second)) (lent_row table (max first second)))))
+    ≡ rows_refusal table count first second
+unfolding rows_refusal
+rows_tests table count first second =
+    let rest = or_else (lent_row table (min first second)) (lent_row table (max first second)) in
+    ap (or_else (named_refusal count first)) (sym (or_else_chain (named_refusal count second) (room_refusal row_width table count) rest))
+    ∙ sym (or_else_chain (named_refusal count first) (or_else (named_refusal count second) (room_refusal row_width table count)) rest)
+    ∙ ap (λ t. or_else t rest) (both_named (is_row count first) (is_row count second) (leb count symbols) (room_refusal row_width table count))
 
 -- ---- rows that a table holds
 pub record Held (table : List ℤ) (row : ℕ) : Type 0 where
@@ -94,10 +172,6 @@ pub table_holds : (table : List ℤ) (count row : ℕ) {r : Refusal} → r ≡ t
 table_holds table count row e h =
     let a = table_accepted table count (is_row count row) (number_of e h) in
     held table count row a.room a.all_known
-
--- the count is one that the tests let through
-pub table_few : (table : List ℤ) (count row : ℕ) {r : Refusal} → r ≡ table_refusal table count (is_row count row) → r.number ≡ 0 → count ≤ symbols
-table_few table count row e h = (table_accepted table count (is_row count row) (number_of e h)).few
 
 pub table_holds_both : (table : List ℤ) (count first second : ℕ) {r : Refusal}
     → r ≡ table_refusal table count (pick (is_row count first) (is_row count second) false) → r.number ≡ 0 → Held table first × Held table second
@@ -145,10 +219,6 @@ lent_range_accepted ranges row =
 pub lower_first : (table : List ℤ) {low high : ℕ} → low ≤ high
     → or_else (lent_row table low) (lent_row table high) ≡ or_else (lent_row table (min low high)) (lent_row table (max low high))
 lower_first table h = ap₂ (λ (m n : ℕ). or_else (lent_row table m) (lent_row table n)) (sym (min-eq_left h)) (sym (max-eq_right h))
-
-pub lower_second : (table : List ℤ) {low high : ℕ} → low ≤ high
-    → or_else (lent_row table low) (lent_row table high) ≡ or_else (lent_row table (min high low)) (lent_row table (max high low))
-lower_second table h = ap₂ (λ (m n : ℕ). or_else (lent_row table m) (lent_row table n)) (sym (min-eq_right h)) (sym (max-eq_left h))
 
 -- ---- a row asked for and not refused
 pub record RowAccepted (table : List ℤ) (count row : ℕ) : Type 0 where

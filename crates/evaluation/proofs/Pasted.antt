@@ -5,7 +5,7 @@ use Prim.Native.Nat.{ℕ, suc, ◌+◌, ◌≤◌, ◌<◌}
 use native.Mathlib.Nat.{add_assoc, le_refl}
 use native.Mathlib.Numerals.{add-one}
 use native.Mathlib.Omega.{arith}
-use lib.ListN.{length, take, drop, set, length-append, length-set}
+use lib.ListN.{length, take, drop, set, length-append}
 use lib.Seq.{paste, take-paste, drop-paste, take-length, drop-drop, set_split, append_snoc}
 
 module _ {A : Type 0} where
@@ -27,14 +27,6 @@ module _ {A : Type 0} where
   set_paste : (d : List A) (at : ℕ) (a : A) → at < length d → set d at a ≡ paste d at (a ∷ []) 1
   set_paste d at a h =
       set_split d at a h ∙ sym (append_snoc (take at d) a (drop (suc at) d)) ∙ ap (λ k. take at d ++ (a ∷ []) ++ drop k d) (sym (add-one at))
-
-  -- two stores in a row, as a range's numbers are put into the second table
-  pub two_pasted : (t : List A) (at : ℕ) (a b : A) → at + 2 ≤ length t → set (set t at a) (at + 1) b ≡ paste t at (a ∷ b ∷ []) 2
-  two_pasted t at a b h =
-      let here : at < length t = omega arith in
-      set_paste (set t at a) (at + 1) b (rw length-set (omega arith))
-      ∙ ap (λ d. paste d (at + 1) (b ∷ []) 1) (set_paste t at a here)
-      ∙ paste_join t at (a ∷ []) (b ∷ []) (omega arith)
 
   -- a store and two copies in a row, as the numbers of a row are put into a table
   pub three_pasted : (t : List A) (at : ℕ) (a : A) (l p x y : List A) (n m : ℕ) → length l ≡ n → length p ≡ m → at + (1 + n + m) ≤ length t

@@ -6,13 +6,13 @@ use Prim.Native.Nat.{ℕ, ◌-◌, ◌≤◌, ◌<◌}
 use native.Mathlib.Omega.{arith}
 use borrow.Author.Tests.{ne_eqb, le-leb, lt-leb}
 use lib.IntN.{ℤ, pos}
-use lib.ListN.{length, get_or}
+use lib.ListN.{length}
 use Rattle.affine.specs.declared.Row.{Row}
 use Rattle.affine.specs.declared.Range.{Range}
 use Rattle.affine.specs.Answer.{Answer}
 use Rattle.affine.specs.Limits.{span_limit}
 use Rattle.affine.specs.Lists.{at}
-use Rattle.affine.specs.Row.{span, radius, NoneFrom}
+use Rattle.affine.specs.Row.{span, NoneFrom}
 use Rattle.affine.specs.Steps.{constant_row, checked, input_answer}
 use Rattle.affine.proofs.Lists.{length_tabulate, get_or_tabulate}
 use Rattle.affine.specs.Root.{Centred}
@@ -45,14 +45,8 @@ module _ {table : List ℤ} {n k : ℕ} (within : RowsWithin table n) (earlier :
   pub read_span : {x : Row} → x ≡ row_at table k → span x ≤ span_limit
   read_span read = subst (λ r. span r ≤ span_limit) (sym read) (within.spans k earlier)
 
--- such a row as an operand of the row with index n, and its radius
+-- such a row as an operand of the row with index n
 module _ {table : List ℤ} {radii : List ℕ} {n k : ℕ} (operands : Operands table radii n) (earlier : k < n) where
-  pub read_radius_room : k < length radii
-  read_radius_room = omega (arith, operands.room, earlier)
-
-  pub read_radius : {x : Row} → x ≡ row_at table k → get_or radii k 0 ≡ radius x
-  read_radius read = operands.radius_at k earlier ∙ ap radius (sym read)
-
   pub read_none : {x : Row} → x ≡ row_at table k → NoneFrom n x.linear
   read_none read m l = subst (λ r. at r.linear m ≡ pos 0) (sym read) (operands.none_later k earlier m (omega (arith, earlier, l)))
 

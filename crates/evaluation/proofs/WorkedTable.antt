@@ -140,9 +140,6 @@ module _ {c : Schedule} {n : ℕ} {before after : List ℤ} (w : RowsInto c n be
   rows_read : rows_in after n ≡ rows
   rows_read = ap₂ rows_in w.left (sym long) ∙ rows_in_table_after rows before sound
 
-  pub length_kept : row_width * n ≤ length before → length after ≡ length before
-  length_kept h = ap length w.left ∙ length_table_after rows before sound (subst (λ k. row_width * k ≤ length before) (sym long) h)
-
   pub rows_within : row_width * n ≤ length before → RowsWithin after n
   rows_within h =
       let within = rows_within_table_after rows before sound (subst (λ k. row_width * k ≤ length before) (sym long) h) in

@@ -1,17 +1,16 @@
-// Asking about rows: 9, then 8, then 6, the lower row first.
-ghost use Rattle.std.specs.Prelude.{false, ◌≡◌, ◌*◌, ◌≤◌, length};
+// Asking about rows: 9, then 8, then 6, the lower row first. Tables, count and row are handed over one by one, as the specification has its calls.
+ghost use Rattle.std.specs.Prelude.{false, IfOk, leb, ◌≡◌, ◌*◌, ◌^◌, ◌<◌, ◌≤◌, length};
 ghost use Rattle.affine.specs.Limits.{symbols};
 ghost use Rattle.affine.specs.Lists.{pick};
-ghost use Rattle.sheet.specs.Causes.{refusal, accepted};
+ghost use Rattle.sheet.specs.Causes.{accepted};
 ghost use Rattle.sheet.specs.Results.{tested};
 ghost use Rattle.evaluation.specs.Table.{row_width, range_width};
+ghost use Rattle.evaluation.specs.Work.{table_too_short};
 ghost use Rattle.evaluation.specs.Asking.{
   is_row,
-  table_refusal,
-  ranges_refusal,
+  no_such_row,
   lent_row,
   lent_range,
-  or_else,
   row_refusal,
   range_refusal,
   rows_refusal,
@@ -19,105 +18,94 @@ ghost use Rattle.evaluation.specs.Asking.{
 
 use crate::table::{RANGE_WIDTH, ROW_WIDTH, get_range, get_row};
 use affine::limits::SYMBOLS;
-use sheet::{Cause, Refused};
+use sheet::{Cause, Refused, ensure};
 
-fn is_row(count: usize, row: usize) -> bool
-    ensures { result ≡ is_row count row }
+// 9, of a row that is none of so many, or of more rows than a table may hold.
+#[tactic(auto, using(crate::proofs::AskingLaws::tested_ensured, crate::proofs::AskingLaws::ensured_named))]
+fn test_named(count: usize, row: usize) -> Result<(), Refused>
+    ensures answer { tested result ≡ pick (pick (is_row count row) (leb count symbols) false) accepted no_such_row }
+    ensures named { IfOk result (λ u. (1 ≤ row) × (row ≤ count) × (count ≤ symbols)) }
 {
-    1 <= row && row <= count
+    ensure(
+        (1..=count).contains(&row) && count <= SYMBOLS,
+        Cause::NoSuchRow,
+        0,
+    )
 }
 
-fn are_rows(count: usize, first: usize, second: usize) -> bool
-    ensures { result ≡ pick (is_row count first) (is_row count second) false }
+// 8, of a table that has so many numbers for each of so many rows.
+#[tactic(auto, using(crate::proofs::AskingLaws::tested_ensured, crate::proofs::AskingLaws::ensured_room))]
+pub(crate) fn test_room<const WIDTH: usize>(table: &[i64], count: usize) -> Result<(), Refused>
+    requires { WIDTH * count < 2 ^ 64 }
+    ensures answer { tested result ≡ pick (leb (WIDTH * count) (length table.now)) accepted table_too_short }
+    ensures room { IfOk result (λ u. WIDTH * count ≤ length table.now) }
 {
-    is_row(count, first) && is_row(count, second)
+    ensure(WIDTH * count <= table.len(), Cause::RoomTooShort, 0)
 }
 
-// 9 and 8: known: the rows asked for are among those that the count names.
-fn test_table(table: &[i64], count: usize, known: bool) -> Result<(), Refused>
-    ensures { tested result ≡ table_refusal table.now count known }
-{
-    if !known || SYMBOLS < count {
-        return Err(Refused {
-            cause: Cause::NoSuchRow,
-            place: 0,
-        });
-    }
-    if table.len() < ROW_WIDTH * count {
-        return Err(Refused {
-            cause: Cause::RoomTooShort,
-            place: 0,
-        });
-    }
-    Ok(())
-}
-
-// 6 at a row that does not pass.
-fn six_unless(passes: bool, row: usize) -> Result<(), Refused>
-    ensures { tested result ≡ pick passes accepted (refusal 6 row) }
-{
-    if passes {
-        Ok(())
-    } else {
-        Err(Refused {
-            cause: Cause::SpanPassed,
-            place: row,
-        })
-    }
-}
-
-// 6, of a row that the table holds.
+// 6, of a row that the table holds. Rows are asked for by their numbers from 1: that a number is one stands here and below.
+#[tactic(auto, using(crate::proofs::AskingLaws::tested_ensured))]
 fn test_lent_row(table: &[i64], row: usize) -> Result<(), Refused>
     requires { (1 ≤ row) × (row_width * row ≤ length table.now) }
     ensures { tested result ≡ lent_row table.now row }
 {
-    six_unless(affine::sums::within_span(get_row(table, row - 1)), row)
+    ensure(
+        affine::sums::within_span(get_row(table, row - 1)),
+        Cause::SpanPassed,
+        row,
+    )
 }
 
-pub fn test_row(table: &[i64], count: usize, row: usize) -> Result<(), Refused>
+// 9, 8 and 6, of one row.
+#[tactic(auto, using(crate::proofs::AskingLaws::stop_told, crate::proofs::AskingLaws::goes_on, crate::proofs::AskingLaws::row_tests))]
+pub(crate) fn test_row(table: &[i64], count: usize, row: usize) -> Result<(), Refused>
     ensures { tested result ≡ row_refusal table.now count row }
 {
-    test_table(table, count, is_row(count, row))?;
+    test_named(count, row)?;
+    test_room::<ROW_WIDTH>(table, count)?;
     test_lent_row(table, row)
 }
 
-// 8, of the second table.
-fn test_ranges(ranges: &[i64], count: usize) -> Result<(), Refused>
-    requires { count ≤ symbols }
-    ensures { tested result ≡ ranges_refusal ranges.now count }
-{
-    if ranges.len() < RANGE_WIDTH * count {
-        return Err(Refused {
-            cause: Cause::RoomTooShort,
-            place: 0,
-        });
-    }
-    Ok(())
-}
-
 // 6, of a range that the second table holds.
+#[tactic(auto, using(crate::proofs::AskingLaws::tested_ensured))]
 fn test_lent_range(ranges: &[i64], row: usize) -> Result<(), Refused>
     requires { (1 ≤ row) × (range_width * row ≤ length ranges.now) }
     ensures { tested result ≡ lent_range ranges.now row }
 {
     let range = get_range(ranges, row - 1);
-    six_unless(range.low <= range.high, row)
+    ensure(range.low <= range.high, Cause::SpanPassed, row)
 }
 
-pub fn test_range(table: &[i64], ranges: &[i64], count: usize, row: usize) -> Result<(), Refused>
+// Of a row and its range: 9, 8 of either table, 6 of either.
+#[tactic(auto, using(crate::proofs::AskingLaws::stop_told, crate::proofs::AskingLaws::goes_on, crate::proofs::AskingLaws::range_tests))]
+pub(crate) fn test_range(
+    table: &[i64],
+    ranges: &[i64],
+    count: usize,
+    row: usize,
+) -> Result<(), Refused>
     ensures { tested result ≡ range_refusal table.now ranges.now count row }
 {
-    test_table(table, count, is_row(count, row))?;
-    test_ranges(ranges, count)?;
+    test_named(count, row)?;
+    test_room::<ROW_WIDTH>(table, count)?;
+    test_room::<RANGE_WIDTH>(ranges, count)?;
     test_lent_row(table, row)?;
     test_lent_range(ranges, row)
 }
 
-// The lower row first.
-pub fn test_rows(table: &[i64], count: usize, first: usize, second: usize) -> Result<(), Refused>
+// Of two rows: 9 of either, 8, and 6 of the lower row first.
+#[tactic(auto, using(crate::proofs::AskingLaws::stop_told, crate::proofs::AskingLaws::goes_on, crate::proofs::AskingLaws::rows_tests))]
+pub(crate) fn test_rows(
+    table: &[i64],
+    count: usize,
+    first: usize,
+    second: usize,
+) -> Result<(), Refused>
     ensures { tested result ≡ rows_refusal table.now count first second }
 {
-    test_table(table, count, are_rows(count, first, second))?;
+    test_named(count, first)?;
+    test_named(count, second)?;
+    test_room::<ROW_WIDTH>(table, count)?;
     let lower = first.min(second);
     let higher = first.max(second);
     test_lent_row(table, lower)?;

@@ -6,9 +6,10 @@ use crate::table::{get_range, get_row};
 use affine::operands::Operand;
 use affine::{Range, Row};
 
-/// So many rows, each within the span limit; what a list or a table holds behind them is not looked at.
+/// So many rows, each within the span limit; what a list or a table holds behind them is not looked at. The count stands beside the slices: cut to it, all
+/// three would be cut anew for each row, and the methods would ask the same of an index. Three slices side by side: two are the caller's tables.
 #[derive(Clone, Copy)]
-pub struct Earlier<'a> {
+pub(crate) struct Earlier<'a> {
     pub table: &'a [i64],
     pub ranges: &'a [i64],
     pub radii: &'a [u64],
@@ -19,8 +20,9 @@ pub struct Earlier<'a> {
 }
 
 impl<'a> Earlier<'a> {
+    // Each asks for the index of one of the rows, as a slice does.
     #[inline]
-    pub fn row(&self, k: usize) -> Row
+    pub(crate) fn row(&self, k: usize) -> Row
         requires { k < self.now.count }
         ensures { result ≡ row_at self.now.table.now k }
     {
@@ -28,7 +30,7 @@ impl<'a> Earlier<'a> {
     }
 
     #[inline]
-    pub fn range(&self, k: usize) -> Range
+    pub(crate) fn range(&self, k: usize) -> Range
         requires { k < self.now.count }
         ensures { result ≡ range_at self.now.ranges.now k }
     {
@@ -37,7 +39,7 @@ impl<'a> Earlier<'a> {
 
     // A row with its radius.
     #[inline]
-    pub fn operand(&self, k: usize) -> Operand
+    pub(crate) fn operand(&self, k: usize) -> Operand
         requires { k < self.now.count }
         ensures { result.row ≡ row_at self.now.table.now k }
     {

@@ -1,4 +1,5 @@
 // Evaluation of a schedule into two lent tables, its rows and their ranges, and what is asked about them (manual, sections 6 and 7).
+// Tables, counts and rows are handed over one by one, as the specification has its calls.
 #![tactic(auto)]
 
 mod answered; // answered.rt: the answered ranges, each the overlap of a row's own range and its plain one
@@ -9,17 +10,16 @@ mod steps; // steps.rt: the row of a step, from the rows before it
 pub mod table; // table.rt: rows and ranges read from tables of numbers, put into them, and rows compared there
 mod work; // work.rt: all rows and their own ranges, one after another
 
-ghost use Rattle.std.specs.Prelude.{◌≡◌, ◌≤◌};
-ghost use Rattle.affine.specs.Limits.{symbols};
+ghost use Rattle.std.specs.Prelude.{◌≡◌};
 ghost use Rattle.sheet.specs.Results.{tested};
 ghost use Rattle.evaluation.specs.Table.{table_after, ranges_after};
-ghost use Rattle.evaluation.specs.Work.{tables_hold, evaluated};
+ghost use Rattle.evaluation.specs.Work.{evaluated};
 ghost use Rattle.evaluation.specs.Ranges.{answered_ranges};
 ghost use Rattle.evaluation.specs.Asking.{range_of, same_of, part_of};
 ghost use Rattle.evaluation.specs.Answers.{range_answer, same_answer};
 
 use affine::Range;
-use sheet::{Cause, Refused, Schedule};
+use sheet::{Refused, Schedule};
 
 // How many rows a schedule has, for those who ask about them.
 pub use work::row_count;
@@ -33,27 +33,16 @@ pub fn evaluate(schedule: Schedule, table: &mut [i64], ranges: &mut [i64]) -> Re
 {
     sheet::test(schedule)?;
     let rows = row_count(schedule);
-    if !tables_hold(table, ranges, rows) {
-        return Err(Refused {
-            cause: Cause::RoomTooShort,
-            place: 0,
-        });
-    }
+    asking::test_room::<{ table::ROW_WIDTH }>(table, rows)?;
+    asking::test_room::<{ table::RANGE_WIDTH }>(ranges, rows)?;
     let done = work::work_rows(schedule, table, ranges, rows);
+    // all rows were worked, or those before the place of a refusal
     let worked = match done {
         Ok(()) => rows,
         Err(refused) => refused.place - 1,
     };
     answered::narrow(schedule, ranges, worked);
     done
-}
-
-// Whether both tables have room for so many rows.
-fn tables_hold(table: &[i64], ranges: &[i64], rows: usize) -> bool
-    requires { rows ≤ symbols }
-    ensures { result ≡ tables_hold rows table.now ranges.now }
-{
-    table::ROW_WIDTH * rows <= table.len() && table::RANGE_WIDTH * rows <= ranges.len()
 }
 
 // The range of a row, from tables that hold so many rows and their ranges.
@@ -74,7 +63,7 @@ pub fn row(table: &[i64], count: usize, row: usize) -> &[i64]
     }
 }
 
-// Whether two rows of one table have the same numbers.
+// Whether two rows of one table have the same numbers. Like `range` it is a test and then an answer, but both are its own.
 pub fn same(table: &[i64], count: usize, first: usize, second: usize) -> Result<bool, Refused>
     ensures { same_answer result ≡ same_of table.now count first second }
 {

@@ -7,7 +7,7 @@ use sheet::Step;
 
 /// What a step does; the rows that it names, by their indices.
 #[derive(Clone, Copy, Debug, PartialEq, Eq)]
-pub enum Operation {
+pub(crate) enum Operation {
     Constant(i64),
     Sum(usize, usize),
     Difference(usize, usize),
@@ -24,8 +24,9 @@ fn index(field: i64) -> usize
     field as usize - 1
 }
 
-// What a step with a code does whose fields name rows where the code uses them.
-pub fn operation_of(step: Step) -> Operation
+// What a step with a code does whose fields name rows where the code uses them. Not `From`, which takes any step. A step keeps its code as a number, since
+// any schedule may be handed over: evaluation reads it here alone.
+pub(crate) fn operation_of(step: Step) -> Operation
     requires { StepForm step }
     ensures { Does result step }
 {

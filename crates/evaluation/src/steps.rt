@@ -11,8 +11,8 @@ use affine::operands::Symbols;
 use affine::{Made, NoRow};
 use sheet::Step;
 
-// The new row owns the symbol behind those of the rows before it.
-pub fn step_row(earlier: &Earlier, step: Step, symbols: Symbols) -> Result<Made, NoRow>
+// The new row owns the symbol behind those of the rows before it, so `symbols` has their count once more: the row operations ask for both its numbers together.
+pub(crate) fn step_row(earlier: &Earlier, step: Step, symbols: Symbols) -> Result<Made, NoRow>
     requires next { symbols.own ≡ earlier.now.count }
     requires step_passed { StepPassed symbols.own step.code step.first step.second step.value }
     ensures { answer_of result ≡ step_answer symbols.squares (rows_in earlier.now.table.now symbols.own) (ranges_in earlier.now.ranges.now symbols.own) step }

@@ -1,17 +1,16 @@
 -- What the program makes ready, by how the reading of the formula ended: the text fits, and it is that of the whole formula.
-use mathlib.Core.Path.{◌≡◌, refl, sym, ap, ◌∙◌}
+use mathlib.Core.Path.{◌≡◌, sym, ap, ◌∙◌}
 use mathlib.Core.List.{List}
 use Prim.Native.Nat.{ℕ, ◌≤◌, ◌<◌}
 use native.Mathlib.Nat.{zero-add}
 use native.Mathlib.Omega.{arith}
 use borrow.Author.Tests.{eq-eqb, ne_eqb}
 use lib.ListN.{length, take}
-use Rattle.std.specs.Prelude.{Result, Ok, Err}
-use Rattle.std.specs.Result.{result_unwrap_or}
+use Rattle.std.specs.Prelude.{Ok, Err}
 use Rattle.sheet.specs.Writing.{test_of, sheet_text, Written}
 use Rattle.sheet.specs.Wrote.{Wrote}
 use Rattle.sheet.specs.Answers.{Refusal, ReadAnswer, WriteAnswer}
-use Rattle.sheet.specs.Results.{refusal_of, read_answer, write_answer}
+use Rattle.sheet.specs.Results.{refusal_of, read_answer}
 use Rattle.sheet.specs.declared.Schedule.{Schedule}
 use Rattle.sheet.specs.declared.causes.Refused.{Refused}
 use Rattle.sheet.proofs.Results.{read_zero, read_some}
@@ -50,10 +49,6 @@ wrote_sheet c before after w passes room h =
       ends = ap (λ (a : WriteAnswer). a.length) (h.answers ∙ sym d.0) ∙ sym (zero-add (length (sheet_text c)));
       is = h.leaves ∙ sym d.1;
     }
-
-pub length_told : (answer : Result ℕ Refused) → result_unwrap_or answer 0 ≡ (write_answer answer).length
-length_told (Ok n) = refl
-length_told (Err r) = refl
 
 module _ (b : InputBlock) (room : ℕ) (taken : List ℕ) (before after : List ℕ) (enough : 200 < room) (kept : length after ≡ length before)
     (fits : text_room ≤ length before) where

@@ -21,35 +21,33 @@ const SQUARES: usize = 2;
 
 const ENDS: usize = 3;
 
-// The argument at a position, where it is a number written as on a sheet.
+// The argument at a position, where it is a number written as on a sheet. Why there is none is not told, here and below, so an error is none.
 fn number_at(rt: &impl Env, i: usize) -> Option<i64> {
     let mut word = [0u8; WORD_ROOM];
     let n = rt.arg(i, &mut word).ok()?;
-    if n == WORD_ROOM {
-        return None;
-    }
-    word[n] = b'\n';
+    *word.get_mut(n)? = b'\n';
     let number = sheet::field_at(&word, 0, b'\n')?;
     (number.next == n + 1).then_some(number.value)
 }
 
-// The inputs among so many arguments: how many there are, or seven where there are more, and the ends of as many as there is room for. None where a word
-// of them is no number, or is left over.
+// The inputs among so many arguments: how many there are, and the ends of as many as there is room for. None where a word of them is no number, or is left
+// over.
 fn inputs_given(rt: &impl Env, count: usize) -> Option<InputBlock> {
     let squares = number_at(rt, SQUARES)?;
     let words = count.saturating_sub(ENDS);
     if words % 2 != 0 {
         return None;
     }
-    let mut ends = [End { low: 0, high: 0 }; MAX_INPUTS];
+    let mut ends = [End::ZERO; MAX_INPUTS];
+    // by position: an argument is asked for by its position, and the pairs that there is no room for are read too
     for i in 0..words / 2 {
         let low = number_at(rt, ENDS + 2 * i)?;
         let high = number_at(rt, ENDS + 2 * i + 1)?;
-        if i < MAX_INPUTS {
-            ends[i] = End { low, high };
+        if let Some(end) = ends.get_mut(i) {
+            *end = End { low, high };
         }
     }
-    let inputs = (words / 2).min(MAX_INPUTS + 1) as i64;
+    let inputs = i64::try_from(words / 2).ok()?;
     Some(InputBlock {
         inputs,
         squares,
@@ -67,13 +65,14 @@ fn formula_given<'a>(rt: &impl Env, room: &'a mut [u8; FORMULA_ROOM]) -> &'a [u8
     &room[..n]
 }
 
-// Writes what is printed for a formula of which these bytes were taken: all of it that there is room for.
+// Writes what is printed for a formula of which these bytes were taken: all of it that there is room for. Answers a length, and not the slice: the contract says
+// of all the bytes what they hold afterwards. The text has room for every sheet, so no 0 is answered.
 fn put_text(block: InputBlock, taken: &[u8], text: &mut [u8; TEXT_ROOM]) -> usize
     ensures { Printed block FORMULA_ROOM taken.now text.old text.new result }
 {
     match formulas::read(block, taken) {
         Ok(schedule) => sheet::write(schedule, text).unwrap_or(0),
-        Err(refused) => listing::put_refusal(text, refused),
+        Err(refused) => listing::put_refusal(text, refused.cause.number(), refused.place),
     }
 }
 
@@ -100,14 +99,11 @@ fn has_argument(rt: &impl Env, i: usize) -> bool {
     !matches!(rt.arg(i, &mut none), Err(FillError::NotPresent))
 }
 
-// How many arguments there are, the program's own name among them. A proved loop ends, and nothing says that they do: no run gets to the last count.
+// How many arguments there are, the program's own name among them. A proved search ends, and nothing says that they do: no run gets to the last count.
 fn argument_count(rt: &impl Env) -> usize {
-    for count in 0..usize::MAX {
-        if !has_argument(rt, count) {
-            return count;
-        }
-    }
-    usize::MAX
+    (0..usize::MAX)
+        .find(|&count| !has_argument(rt, count))
+        .unwrap_or(usize::MAX)
 }
 
 fn main(rt: HostRuntime) {

@@ -18,7 +18,7 @@ use Rattle.sheet.proofs.Choice.{pick_elim}
 use Rattle.sheet.proofs.Digits.{digit_some, digit_none}
 use Rattle.formulas.specs.Answer.{front_value, first_beyond}
 use Rattle.formulas.specs.Built.{capped, literal_of, digits_from}
-use Rattle.formulas.specs.declared.literals.Literal.{Literal}
+use Rattle.sheet.specs.declared.Found.{Found}
 use Rattle.formulas.proofs.Numerals.{capped_digit}
 
 pub capped_small : (v : ℕ) → capped v ≤ end_limit + 1
@@ -50,7 +50,7 @@ pub digits_within : (v p : ℕ) (bs : List ℕ) → (p ≤ (digits_from v p bs).
 unfolding digits_from
 digits_within v p [] = (omega arith, omega arith)
 digits_within v p (b ∷ bs) =
-    pick_elim (λ (l : Literal). (p ≤ l.next) × (l.next ≤ p + suc (length bs))) (ltb (digit_of b) 10) _ _
+    pick_elim (λ (l : Found ℕ). (p ≤ l.next) × (l.next ≤ p + suc (length bs))) (ltb (digit_of b) 10) _ _
     (λ e. let w = digits_within (capped (v * 10 + digit_of b)) (suc p) bs in (omega arith, omega arith))
     (λ e. (omega arith, omega arith))
 
@@ -58,7 +58,7 @@ pub digits_small : (v p : ℕ) (bs : List ℕ) → v ≤ end_limit + 1 → (digi
 unfolding digits_from
 digits_small v p [] h = h
 digits_small v p (b ∷ bs) h =
-    pick_elim (λ (l : Literal). l.value ≤ end_limit + 1) (ltb (digit_of b) 10) _ _
+    pick_elim (λ (l : Found ℕ). l.value ≤ end_limit + 1) (ltb (digit_of b) 10) _ _
     (λ e. digits_small (capped (v * 10 + digit_of b)) (suc p) bs (capped_small (v * 10 + digit_of b)))
     (λ e. h)
 

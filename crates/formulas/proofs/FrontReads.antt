@@ -12,6 +12,7 @@ use lib.Seq.{take_all, length-take-le}
 use Rattle.formulas.specs.Limits.{max_text, max_nesting}
 use Rattle.formulas.specs.Reading.{no_formula, tree, reading, start, fresh, too_long, formula_of}
 use Rattle.formulas.specs.Answer.{first_beyond}
+use Rattle.sheet.specs.Limits.{max_inputs}
 use Rattle.formulas.specs.Built.{place_of, no_steps, Breaks, PartRight, RightWhole}
 use Rattle.formulas.specs.declared.steps.Steps.{Steps}
 use Rattle.formulas.specs.declared.builder.Part.{Part}
@@ -47,14 +48,14 @@ module _ (inputs : ℕ) (s : List ℕ) where
   pub whole_breaks : (place : ℕ) → Breaks front inputs 2 max_nesting 0 place → formula_of inputs s ≡ no_formula place
   whole_breaks place b = broken_front place (b fresh [] refl)
 
-  module _ (after : Steps) (p : Part) (r : PartRight front inputs 2 max_nesting 0 (no_steps inputs) after p) where
+  module _ (few : inputs ≤ max_inputs) (after : Steps) (p : Part) (r : PartRight front inputs 2 max_nesting 0 (no_steps inputs few) after p) where
     is_tree : length front ≤ p.next → reading inputs 1 start front ≡ tree r.right.t
-    is_tree h = read_whole front inputs after p r.right r.stops h
+    is_tree h = read_whole front inputs few after p r.right r.stops h
 
     -- a byte stands behind the formula, or a 201st
     pub whole_behind : p.next < length s → formula_of inputs s ≡ no_formula (suc p.next)
     whole_behind l = elim (dec_lt p.next (length front)) [
-      | yes h ↦ broken_front (suc p.next) (byte_behind front inputs after p r.right r.stops h)
+      | yes h ↦ broken_front (suc p.next) (byte_behind front inputs few after p r.right r.stops h)
       | no h ↦
           let cut = front_length in
           let n : max_text < length s = omega arith in
@@ -77,5 +78,5 @@ module _ (inputs : ℕ) (s : List ℕ) where
           same_inputs = w.same_inputs;
           counted = omega (arith, w.counted);
           left = λ k. rw (sym (add-zero inputs)) (w.left ((literals_within inputs s w.t formula).0 k));
-          told = seen_whole front inputs after p w r.stops h ∙ ap (λ (u : List ℕ). place_of (first_beyond 1 false u)) f;
+          told = seen_whole front inputs few after p w r.stops h ∙ ap (λ (u : List ℕ). place_of (first_beyond 1 false u)) f;
         }

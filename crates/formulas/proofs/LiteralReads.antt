@@ -21,7 +21,7 @@ use Rattle.formulas.specs.Reading.{Open, wanting, counting, holding, next, readi
 use Rattle.formulas.specs.Answer.{front_value}
 use Rattle.formulas.specs.Built.{capped, literal_of, digits_from, literal_at, beyond_with, place_of, found}
 use Rattle.formulas.specs.declared.Token.TheVariants.{Digit}
-use Rattle.formulas.specs.declared.literals.Literal.{Literal}
+use Rattle.sheet.specs.declared.Found.{Found}
 use Rattle.formulas.proofs.Positions.{first_byte, byte_inside, goes_on, literal_ends}
 use Rattle.formulas.proofs.DigitRuns.{digits_more, digits_other, digits_end, digits_small, digits_value, digits_within, drop_next, beyond_here, beyond_behind}
 
@@ -31,7 +31,7 @@ digit_token inputs b h = simp (lt-ltb (digit_of b) 10 h)
 
 pub literal_small : (s : List ℕ) (at : ℕ) → (literal_at s at).value ≤ end_limit + 1
 literal_small s at =
-    pick_elim (λ (l : Literal). l.value ≤ end_limit + 1) (eqb (digit_of (get_or s at 0)) 0) _ _ (λ z. omega arith) (λ z. digits_small 0 at (drop at s) (omega arith))
+    pick_elim (λ (l : Found ℕ). l.value ≤ end_limit + 1) (eqb (digit_of (get_or s at 0)) 0) _ _ (λ z. omega arith) (λ z. digits_small 0 at (drop at s) (omega arith))
 
 module _ (s : List ℕ) (inputs : ℕ) where
   -- one digit more behind a value that is not 0
@@ -50,7 +50,7 @@ module _ (s : List ℕ) (inputs : ℕ) where
   counts (b ∷ bs) w v p e h o around =
       go (ltb (digit_of b) 10) refl (counts bs (capped (w * 10 + digit_of b)) (v * 10 + digit_of b) (suc p) (drop_next s p b bs e) (omega arith) o around)
     where
-      more : Literal
+      more : Found ℕ
       more = digits_from (capped (w * 10 + digit_of b)) (suc p) bs
 
       go : (d : Bool) → ltb (digit_of b) 10 ≡ d
@@ -67,7 +67,7 @@ module _ (s : List ℕ) (inputs : ℕ) where
   stops [] w p e = rw (first_byte s [] p e) (lit≤ tt)
   stops (b ∷ bs) w p e = go (ltb (digit_of b) 10) refl (stops bs (capped (w * 10 + digit_of b)) (suc p) (drop_next s p b bs e))
     where
-      more : Literal
+      more : Found ℕ
       more = digits_from (capped (w * 10 + digit_of b)) (suc p) bs
 
       go : (d : Bool) → ltb (digit_of b) 10 ≡ d → 10 ≤ digit_of (get_or s more.next 0) → 10 ≤ digit_of (get_or s (pick d more (literal_of w p)).next 0)
@@ -82,7 +82,7 @@ module _ (s : List ℕ) (inputs : ℕ) where
         goes_on s inputs at (wanting o around) (counting o around (digit_of (get_or s at 0))) inside (ap (next (wanting o around)) (digit_token inputs (get_or s at 0) d))
 
     -- how the reading gets behind the literal l, whose value is v
-    pub record LiteralRead (l : Literal) : Type 0 where
+    pub record LiteralRead (l : Found ℕ) : Type 0 where
       pub v : ℕ
       pub is : l.value ≡ capped v
       pub reads : (o : Open) (around : List Open)
@@ -106,7 +106,7 @@ module _ (s : List ℕ) (inputs : ℕ) where
     abbrev first : ℕ
     first = digit_of (get_or s at 0)
 
-    abbrev behind : Literal
+    abbrev behind : Found ℕ
     behind = digits_from (capped (0 * 10 + first)) (suc at) (drop (suc at) s)
 
     behind_is : digits_from 0 at (drop at s) ≡ behind
@@ -124,7 +124,7 @@ module _ (s : List ℕ) (inputs : ℕ) where
         let next_byte = first_byte s (drop behind.next s) behind.next refl in
         record {
           v = front_value first (drop (suc at) s);
-          is = sym (ap (λ (l : Literal). l.value) behind_is) ∙ digits_value 0 at (drop at s) ∙ ap capped front_is;
+          is = sym (ap (λ (l : Found ℕ). l.value) behind_is) ∙ digits_value 0 at (drop at s) ∙ ap capped front_is;
           reads = λ o around.
               begins o around ∙ counts (drop (suc at) s) (capped (0 * 10 + first)) first (suc at) refl (omega (arith, n)) o around
               ∙ literal_ends inputs (suc behind.next) o around (front_value first (drop (suc at) s)) (drop behind.next s) (inr (rw next_byte at no_more));
@@ -155,7 +155,7 @@ module _ (s : List ℕ) (inputs : ℕ) where
     literal_seen (Some b) h = refl
     literal_seen None h = rw (all_digits h) (none (dec_lt end_limit l.value))
       where
-        l : Literal
+        l : Found ℕ
         l = digits_from 0 at (drop at s)
 
         none : Dec (end_limit < l.value) → found s None at ≡ found s (beyond_with None l.value at) l.next

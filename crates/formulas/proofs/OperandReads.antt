@@ -18,6 +18,7 @@ use Rattle.formulas.specs.Grammar.{Tree, letter, literal, byte_of}
 use Rattle.formulas.specs.Reading.{Open, fresh, wanting, holding, broken, after_holding, next, no_formula, tree, reading, start, token_of}
 use Rattle.formulas.specs.Steps.{step_of, step_count, steps_of, LiteralsWithin}
 use Rattle.formulas.specs.Answer.{first_beyond}
+use Rattle.sheet.specs.Limits.{max_inputs}
 use Rattle.formulas.specs.Built.{literal_at, place_of, found, sign_within, no_steps, Reaches, Right, Breaks, Constant}
 use Rattle.formulas.specs.declared.Sign.{Sign}
 use Rattle.formulas.specs.declared.Sign.TheVariants.{Plus, Minus, Times, Over}
@@ -193,7 +194,7 @@ module _ (bytes : List ℕ) (inputs k at : ℕ) (e : token_at bytes inputs at �
 
 -- ---- the whole text
 
-module _ (bytes : List ℕ) (inputs : ℕ) (after : Steps) (p : Part) (r : Right bytes inputs 2 max_nesting 0 (no_steps inputs) after p)
+module _ (bytes : List ℕ) (inputs : ℕ) (few : inputs ≤ max_inputs) (after : Steps) (p : Part) (r : Right bytes inputs 2 max_nesting 0 (no_steps inputs few) after p)
     (stops : sign_within 2 (get_or bytes p.next 0) ≡ None) where
   reached : Reaches bytes inputs 2 0 r.t p.next fresh []
   reached = r.reaches fresh [] refl

@@ -17,7 +17,7 @@ use Rattle.formulas.specs.Steps.{step_of, step_count, row_of, steps_of, Literals
 use Rattle.formulas.specs.Answer.{literal_beyond, steps_beyond, first_beyond}
 use Rattle.formulas.specs.declared.Sign.{Sign}
 use Rattle.formulas.specs.declared.Sign.TheVariants.{Plus, Minus, Times, Over}
-use Rattle.formulas.specs.declared.literals.Literal.{Literal}
+use Rattle.sheet.specs.declared.Found.{Found}
 use Rattle.formulas.specs.declared.steps.Steps.{Steps}
 use Rattle.formulas.specs.declared.builder.Part.{Part}
 use Rattle.formulas.specs.declared.builder.Wrong.{Wrong}
@@ -28,16 +28,16 @@ use Rattle.formulas.specs.declared.builder.Wrong.{Wrong}
 abbrev pub capped : ℕ → ℕ
 capped v = min v (end_limit + 1)
 
-abbrev pub literal_of : ℕ → ℕ → Literal
+abbrev pub literal_of : ℕ → ℕ → Found ℕ
 literal_of value next = record { value = value; next = next }
 
 -- the digits from position p on, behind digits of the capped value v
-unfoldable pub digits_from : ℕ → ℕ → List ℕ → Literal
+unfoldable pub digits_from : ℕ → ℕ → List ℕ → Found ℕ
 digits_from v p [] = literal_of v p
 digits_from v p (b ∷ bs) = pick (ltb (digit_of b) 10) (digits_from (capped (v * 10 + digit_of b)) (suc p) bs) (literal_of v p)
 
 -- the literal at a position: 0 alone, or all digits from there on
-abbrev pub literal_at : List ℕ → ℕ → Literal
+abbrev pub literal_at : List ℕ → ℕ → Found ℕ
 literal_at bytes at = pick (eqb (digit_of (get_or bytes at 0)) 0) (literal_of 0 (at + 1)) (digits_from 0 at (drop at bytes))
 
 -- the place of the first literal beyond the limits, if there is one: b if it was found before, or that of a literal of this capped value at a position
@@ -69,12 +69,12 @@ sign_within rank b = ranked rank (sign_of b)
 -- ---- steps
 
 -- no steps yet, over so many inputs
-abbrev pub no_steps : ℕ → Steps
-no_steps inputs = record { inputs = inputs; step = replicate max_steps zero_step; count = 0; beyond = None }
+abbrev pub no_steps : (inputs : ℕ) → inputs ≤ max_inputs → Steps
+no_steps inputs few = record { inputs = inputs; step = replicate max_steps zero_step; count = 0; beyond = None; few_inputs = few }
 
 -- these steps put behind those that there are, as far as a schedule has room for them
 abbrev pub with_steps : Steps → List Step → Steps
-with_steps s ts = record { inputs = s.inputs; step = sets s.step s.count ts; count = s.count + length ts; beyond = s.beyond }
+with_steps s ts = record { inputs = s.inputs; step = sets s.step s.count ts; count = s.count + length ts; beyond = s.beyond; few_inputs = s.few_inputs }
 
 -- the steps of a formula, and zeros
 abbrev pub steps_held : ℕ → Tree → List Step
@@ -134,10 +134,9 @@ abbrev pub PartRead : List ℕ → ℕ → ℕ → ℕ → ℕ → Steps → Ste
 PartRead bytes inputs rank nesting at before after (Ok p) = PartRight bytes inputs rank nesting at before after p
 PartRead bytes inputs rank nesting at before after (Err w) = Breaks bytes inputs rank nesting at w.place
 
--- the numbers are small: so many inputs, so few steps before this position
+-- the numbers are small: so few steps before this position
 pub record Small (bytes : List ℕ) (at : ℕ) (s : Steps) : Type 0 where
   pub short : length bytes ≤ max_text
-  pub few_inputs : s.inputs ≤ max_inputs
   pub few_steps : s.count ≤ 2 * at
   pub inside : at ≤ length bytes
 

@@ -1,6 +1,6 @@
 // What the call answers: the test of the inputs, the refusal by 10, and the schedule of a text that is a formula.
 ghost use Rattle.std.specs.Prelude.{◌≡◌, ◌≤◌};
-ghost use Rattle.sheet.specs.Limits.{max_inputs, max_steps};
+ghost use Rattle.sheet.specs.Limits.{max_steps};
 ghost use Rattle.sheet.specs.Lines.{natural};
 ghost use Rattle.sheet.specs.Results.{tested};
 ghost use Rattle.sheet.specs.declared.causes.Cause.TheVariants.{NoFormula};
@@ -26,19 +26,19 @@ impl From<Wrong> for Refused {
     }
 }
 
-// The ends of the inputs within their count, and zeros.
-fn ends_within(block: InputBlock, inputs: usize) -> [End; MAX_INPUTS]
-    requires { inputs ≤ max_inputs }
-    ensures { result ≡ ends_within inputs block.ends }
+// The ends of the inputs that the steps are made over, and zeros behind them.
+fn ends_within(block: InputBlock, steps: &Steps) -> [End; MAX_INPUTS]
+    ensures { result ≡ ends_within steps.now.inputs block.ends }
 {
-    let mut ends = [End { low: 0, high: 0 }; MAX_INPUTS];
+    let inputs = steps.inputs;
+    let mut ends = [End::ZERO; MAX_INPUTS];
     ends[..inputs].copy_from_slice(&block.ends[..inputs]);
     ends
 }
 
 // Tests the inputs by 3 and 4.
 #[tactic(auto, unfolding(crate::specs::Answer::sheet_of))]
-pub fn inputs_test(block: InputBlock) -> Result<(), Refused>
+pub(crate) fn inputs_test(block: InputBlock) -> Result<(), Refused>
     ensures { tested result ≡ Answer.inputs_test block }
 {
     let ends = block.ends;
@@ -52,15 +52,15 @@ pub fn inputs_test(block: InputBlock) -> Result<(), Refused>
 }
 
 // The schedule of steps that there is room for.
-pub fn schedule_of(block: InputBlock, steps: &Steps) -> Schedule
-    requires { (steps.now.inputs ≡ natural block.inputs) × (steps.now.inputs ≤ max_inputs) × (steps.now.count ≤ max_steps) }
+pub(crate) fn schedule_of(block: InputBlock, steps: &Steps) -> Schedule
+    requires { (steps.now.inputs ≡ natural block.inputs) × (steps.now.count ≤ max_steps) }
     ensures { (t : Tree) → steps.now.count ≡ step_count t → steps.now.step ≡ Spec.steps_held steps.now.inputs t → result ≡ schedule_of block t }
 {
     Schedule {
         inputs: block.inputs,
         squares: block.squares,
         steps: steps.count as i64,
-        ends: ends_within(block, steps.inputs),
+        ends: ends_within(block, steps),
         step: steps.step,
     }
 }

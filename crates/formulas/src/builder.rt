@@ -1,25 +1,26 @@
 // A formula read into steps: the reader goes into each pair of brackets by calling itself, with one pair less to go.
-ghost use Rattle.std.specs.Prelude.{◌≡◌, suc, ◌≤◌, ◌<◌, length};
-ghost use Rattle.sheet.specs.Limits.{max_inputs};
+// Text and steps come apart, since the text stays while the steps grow: a struct of both would need a clause more for that. The text stands with a position, and not
+// as what is left of it: specs/Built.antt says by positions what was read.
+ghost use Rattle.std.specs.Prelude.{◌≡◌, suc, ◌<◌, length};
 ghost use Rattle.formulas.specs.Built as Spec;
 
 use crate::steps::Steps;
 use crate::{MAX_NESTING, MAX_TEXT, Token, literals, steps, tokens};
 
-// A part of a formula that was read: the position behind it, and the row that it is.
+// A part of a formula that was read: the position behind it, and the row that it is. No `Found`: the name says that the number is a row's.
 #[derive(Clone, Copy)]
-pub struct Part {
+pub(crate) struct Part {
     pub next: usize,
     pub row: usize,
 }
 
 // The place of a byte that no formula has there.
 #[derive(Clone, Copy)]
-pub struct Wrong {
+pub(crate) struct Wrong {
     pub place: usize,
 }
 
-// The byte at this position is one that no formula has there.
+// The byte at this position is one that no formula has there. Where it is refused stand `if` and `return`: `ensure` makes a refusal with its cause.
 fn wrong_at(at: usize) -> Wrong
     requires { at < 1000 }
     ensures { result.place ≡ suc at }
@@ -42,7 +43,6 @@ fn constant(text: &[u8], at: usize, steps: &mut Steps) -> Part
     }
 }
 
-// Text and steps come apart, since the text stays while the steps grow: a struct of both would need a clause more for that, here and below.
 // The operand at a position: a literal, a letter, or what stands in brackets, of which so many may still be opened.
 #[cycle(chain_operand)]
 fn operand(text: &[u8], at: usize, depth: usize, steps: &mut Steps) -> Result<Part, Wrong>
@@ -86,6 +86,7 @@ fn chain(
     ensures { Spec.PartRead text.now steps.old.inputs rank depth at steps.old steps.new result }
 {
     let mut left = operand(text, at, depth, steps)?;
+    // no index is counted: how many signs follow is seen byte by byte
     while let Some(sign) = tokens::sign_within(rank, sheet::byte(text, left.next)) {
         let right = chain(text, left.next + 1, sign.rank() - 1, depth, steps)?;
         steps.push_sign(sign, left.row, right.row);
@@ -98,8 +99,8 @@ fn chain(
 }
 
 // The whole text as a formula, its steps put into none: a byte behind it, or a 201st, is one that no formula has there.
-pub fn whole(text: &[u8], steps: &mut Steps) -> Result<(), Wrong>
-    requires { (steps.old.inputs ≤ max_inputs) × (steps.old ≡ Spec.no_steps steps.old.inputs) }
+pub(crate) fn whole(text: &[u8], steps: &mut Steps) -> Result<(), Wrong>
+    requires { steps.old ≡ Spec.no_steps steps.old.inputs steps.old.few_inputs }
     ensures { Spec.Whole text.now steps.old.inputs steps.new result }
 {
     let end = text.len().min(MAX_TEXT);

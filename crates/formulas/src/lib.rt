@@ -19,7 +19,8 @@ pub const MAX_TEXT: usize = 200;
 
 pub const MAX_NESTING: usize = 16;
 
-// What stands beside a formula: how many inputs there are, how many of them have square terms, and the ends of each.
+// What stands beside a formula: how many inputs there are, how many of them have square terms, and the ends of each. A count beside an array, and no Vec:
+// in fixed memory, and any count may be handed over.
 #[derive(Clone, Copy, Debug, PartialEq, Eq)]
 pub struct InputBlock {
     pub inputs: i64,
@@ -39,7 +40,7 @@ pub enum Sign {
 impl Sign {
     ghost use Rattle.formulas.specs.Grammar.{rank_of};
 
-    // Products before sums.
+    // Products before sums. A number: what stands behind a sign is a part of the rank below.
     fn rank(self) -> usize
         ensures { result ≡ rank_of self }
     {
@@ -50,7 +51,7 @@ impl Sign {
     }
 }
 
-// What a byte of a formula is; a letter by its input, counted from 0.
+// What a byte of a formula is; a letter by its input, counted from 0. `Other` and no `Option`: what reading means tells by cases what each token does.
 #[derive(Clone, Copy, PartialEq, Eq, Debug)]
 pub enum Token {
     Digit(u64),

@@ -19,7 +19,7 @@ fn sign_of(b: u8) -> Option<Sign>
 }
 
 // The same, if its rank is at most this.
-pub fn sign_within(rank: usize, b: u8) -> Option<Sign>
+pub(crate) fn sign_within(rank: usize, b: u8) -> Option<Sign>
     ensures { result ≡ Spec.sign_within rank b }
 {
     sign_of(b).filter(|sign| sign.rank() <= rank)
@@ -53,7 +53,7 @@ fn mark_of(inputs: usize, b: u8) -> Token
 
 // What a byte is, over so many inputs.
 #[tactic(auto, unfolding(crate::specs::Reading::token_of))]
-pub fn token_of(inputs: usize, b: u8) -> Token
+pub(crate) fn token_of(inputs: usize, b: u8) -> Token
     ensures { result ≡ token_of inputs b }
 {
     match sheet::digit(b) {

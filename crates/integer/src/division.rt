@@ -6,6 +6,7 @@ ghost use Rattle.integer.specs.Floor.{floor_quotient, floor_remainder, ceiling_q
 ghost use Rattle.integer.specs.Nearest.{nearest_quotient, nearest_remainder};
 
 // a over d, rounded down. Only the least number over -1 is out of range.
+// That d is not 0 stands in three clauses here: a `NonZero` would ask more of callers.
 // Branch by branch, since one test of both signs, as for the remainder, takes 2 in 100 more instructions of a reciprocal.
 pub fn floor_quotient(a: i64, d: i64) -> i64
     requires { (d ≢ pos 0) × SFits w64 (floor_quotient a d) }
@@ -59,7 +60,7 @@ pub fn nearest_remainder_4096(a: i64) -> u64
     low.min(4096 - low)
 }
 
-// n over d, rounded up.
+// n over d, rounded up: the library's method, with the definition that the proofs go by.
 pub fn ceiling_quotient(n: u64, d: u64) -> u64
     requires { 0 < d }
     ensures { result ≡ ceiling_quotient n d }

@@ -86,7 +86,7 @@ const RADICANDS: [u64; 21] = [
     u64::MAX,
 ];
 
-// The least number over -1 has no quotient in range, and its line says so.
+// The least number over -1 has no quotient in range, and its line says so. No divisor is 0: a loop over them does not know it, and so it is tested.
 fn print_floor(rt: &impl Print, a: i64, d: i64) -> io::Result<()> {
     if d == 0 {
         return Ok(());
@@ -110,6 +110,7 @@ fn print_by_4096(rt: &impl Print, a: i64) -> io::Result<()> {
     )
 }
 
+// No divisor is 0, and it is tested as for `print_floor`.
 fn print_ceiling(rt: &impl Print, n: u64, d: u64) -> io::Result<()> {
     if d == 0 {
         return Ok(());
@@ -117,6 +118,7 @@ fn print_ceiling(rt: &impl Print, n: u64, d: u64) -> io::Result<()> {
     println!(rt; "ceiling {n} {d} {}", ceiling_quotient(n, d))
 }
 
+// Not one function with `print_ceilings`: those are of other numbers and another division, and have no line for each dividend.
 fn print_floors(rt: &impl Print) -> io::Result<()> {
     for a in DIVIDENDS {
         for d in DIVISORS {
@@ -130,7 +132,7 @@ fn print_floors(rt: &impl Print) -> io::Result<()> {
 // Each exact half, and its neighbours.
 fn print_halves(rt: &impl Print) -> io::Result<()> {
     for h in HALVES {
-        for a in [h - 1, h, h + 1] {
+        for a in h - 1..=h + 1 {
             print_by_4096(rt, a)?;
         }
     }

@@ -11,6 +11,7 @@ use affine::limits::UNIT_SQUARED;
 use affine::root::unit_root;
 use integer::division::{floor_quotient, floor_quotient_4096};
 
+// That both ranges are within the limit stands in three contracts and in no type: a range has any two ends, and a narrower type would ask more of callers.
 #[tactic(auto, using(crate::proofs::Sizes::sum_fits))]
 pub fn sum(x: Range, y: Range) -> Range
     requires { RangeWithin span_limit x × RangeWithin span_limit y }
@@ -21,7 +22,7 @@ pub fn sum(x: Range, y: Range) -> Range
     Range { low, high }
 }
 
-// The second range taken from the first.
+// The second range taken from the first. Not one function with `sum`, as of rows: here each end goes with the other end of the second range.
 #[tactic(auto, using(crate::proofs::Sizes::difference_fits))]
 pub fn difference(x: Range, y: Range) -> Range
     requires { RangeWithin span_limit x × RangeWithin span_limit y }

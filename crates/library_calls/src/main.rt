@@ -5,13 +5,13 @@
 // each code is and what it prints; it makes the file and the same lines.
 #![tactic(auto)]
 
-ghost use Rattle.std.specs.Prelude.{◌≤◌, ◌<◌, length};
+ghost use Rattle.std.specs.Prelude.{◌≤◌};
 
 use formulas::InputBlock;
 use sheet::{End, MAX_INPUTS, MAX_STEPS, Refused, Schedule, Step};
 use std::fs::File;
-use std::io;
 use std::io::Read;
+use std::{array, io};
 
 // The most numbers and bytes that are lent.
 const TABLE_ROOM: usize = 1612;
@@ -32,20 +32,12 @@ const UNTOUCHED: u8 = b'?';
 const FIELD: usize = 17;
 
 const DIGITS: usize = 16;
-
-const NO_END: End = End { low: 0, high: 0 };
-
-const NO_STEP: Step = Step {
-    code: 0,
-    first: 0,
-    second: 0,
-    value: 0,
-};
+// What stands behind the last call in place of a code.
+const END_CODE: u64 = 0;
 
 // What the file asks for.
 #[derive(Clone, Copy)]
 enum Call {
-    End,
     LendTable,
     PutNumber,
     TakeSchedule,
@@ -65,12 +57,12 @@ enum Call {
 #[derive(Clone, Copy, Debug)]
 struct NoCall;
 
+// A match: the codes are the file's, and the library makes no enum of a number.
 impl TryFrom<u64> for Call {
     type Error = NoCall;
 
     fn try_from(code: u64) -> Result<Call, NoCall> {
         match code {
-            0 => Ok(Call::End),
             1 => Ok(Call::LendTable),
             2 => Ok(Call::PutNumber),
             3 => Ok(Call::TakeSchedule),
@@ -89,40 +81,21 @@ impl TryFrom<u64> for Call {
     }
 }
 
-// What is kept between calls, beside the tables: how many numbers of each are lent, and the schedule.
-#[derive(Clone, Copy)]
-struct State {
-    numbers: usize,
-    ends: usize,
-    schedule: Schedule,
-    ghost numbers_lent: { numbers ≤ 1612 },
-    ghost ends_lent: { ends ≤ 70 },
-}
-
 // ---- the data file
-
-fn digit(b: u8) -> u64 {
-    match b {
-        b'0'..=b'9' => u64::from(b - b'0'),
-        b'a'..=b'f' => u64::from(b - b'a') + 10,
-        _ => 0,
-    }
-}
 
 // Fills the bytes from the file, as far as it goes: a read that fails ends it.
 fn read_full(file: &mut impl Read, bytes: &mut [u8]) {
     let _ = streams::read_input(file, bytes);
 }
 
-// The next field, as an unsigned number; 0 where the file has ended.
+// The next field, as an unsigned number; 0 where the file has ended, so that the calls end there too.
 fn next(file: &mut impl Read) -> u64 {
     let mut field = [0u8; FIELD];
     read_full(file, &mut field);
-    let mut value: u64 = 0;
-    for &b in &field[..DIGITS] {
-        value = (value << 4) | digit(b);
-    }
-    value
+    field[..DIGITS].iter().fold(0, |value, &b| {
+        let digit = char::from(b).to_digit(16).unwrap_or(0);
+        (value << 4) | u64::from(digit)
+    })
 }
 
 // The next field, as a signed number.
@@ -134,6 +107,20 @@ fn next_size(file: &mut impl Read) -> usize {
     next(file) as usize
 }
 
+// The next call, or what is none's code; nothing at the end.
+fn next_call(file: &mut impl Read) -> Option<Result<Call, NoCall>> {
+    match next(file) {
+        END_CODE => None,
+        code => Some(Call::try_from(code)),
+    }
+}
+
+// The first bytes of the room, as many as the next field says, or all of it.
+fn next_lent<'a>(file: &mut impl Read, room: &'a mut [u8]) -> &'a mut [u8] {
+    let length = next_size(file).min(room.len());
+    &mut room[..length]
+}
+
 // Fills the lent bytes with the next ones, and passes over the byte behind them.
 fn next_bytes(file: &mut impl Read, bytes: &mut [u8]) {
     read_full(file, bytes);
@@ -141,27 +128,19 @@ fn next_bytes(file: &mut impl Read, bytes: &mut [u8]) {
     read_full(file, &mut behind);
 }
 
-fn next_ends(file: &mut impl Read) -> [End; MAX_INPUTS] {
-    let mut ends = [NO_END; MAX_INPUTS];
-    for end in &mut ends {
-        let low = next_signed(file);
-        let high = next_signed(file);
-        *end = End { low, high };
-    }
-    ends
+fn next_end(file: &mut impl Read) -> End {
+    let low = next_signed(file);
+    let high = next_signed(file);
+    End { low, high }
 }
 
+fn next_ends(file: &mut impl Read) -> [End; MAX_INPUTS] {
+    array::from_fn(|_| next_end(file))
+}
+
+// The fields of a step, in the order of a sheet's line.
 fn next_step(file: &mut impl Read) -> Step {
-    let code = next_signed(file);
-    let first = next_signed(file);
-    let second = next_signed(file);
-    let value = next_signed(file);
-    Step {
-        code,
-        first,
-        second,
-        value,
-    }
+    Step::from(array::from_fn(|_| next_signed(file)))
 }
 
 fn next_schedule(file: &mut impl Read) -> Schedule {
@@ -169,10 +148,7 @@ fn next_schedule(file: &mut impl Read) -> Schedule {
     let squares = next_signed(file);
     let steps = next_signed(file);
     let ends = next_ends(file);
-    let mut step = [NO_STEP; MAX_STEPS];
-    for place in &mut step {
-        *place = next_step(file);
-    }
+    let step = array::from_fn(|_| next_step(file));
     Schedule {
         inputs,
         squares,
@@ -201,44 +177,21 @@ fn next_inputs(file: &mut impl Read, schedule: Schedule) -> Schedule {
 fn print_refusal<T: Copy>(rt: &impl Print, answer: Result<T, Refused>) -> io::Result<()> {
     match answer {
         Ok(_) => print!(rt; " 0 0"),
-        Err(refused) => print!(rt; " {} {}", refused.cause.number(), refused.place),
+        Err(refused) => print!(rt; " {refused}"),
     }
-}
-
-// How many equal numbers the slice begins with.
-fn run_length(numbers: &[i64]) -> usize
-    requires { 0 < length numbers.now }
-    ensures within { result ≤ length numbers.now }
-    ensures some { 0 < result }
-{
-    let first = numbers[0];
-    for (i, &number) in numbers.iter().enumerate() {
-        if number != first {
-            return i;
-        }
-    }
-    numbers.len()
 }
 
 // The numbers, so many equal ones that follow each other as one.
 fn print_numbers(rt: &impl Print, numbers: &[i64]) -> io::Result<()> {
-    let mut rest = numbers;
-    while !rest.is_empty() {
-        let count = run_length(rest);
-        print!(rt; " {}", rest[0])?;
-        if count > 1 {
-            print!(rt; "x{count}")?;
+    for equal in numbers.chunk_by(|a, b| a == b) {
+        if let [first, ..] = equal {
+            print!(rt; " {first}")?;
         }
-        rest = &rest[count..];
+        if equal.len() > 1 {
+            print!(rt; "x{}", equal.len())?;
+        }
     }
     println!(rt; "")
-}
-
-fn print_tables(rt: &impl Print, table: &[i64], ranges: &[i64]) -> io::Result<()> {
-    print!(rt; "table")?;
-    print_numbers(rt, table)?;
-    print!(rt; "ranges")?;
-    print_numbers(rt, ranges)
 }
 
 // The bytes before the untouched ones that end them, and how many these are.
@@ -258,27 +211,14 @@ fn print_written(rt: &impl Print, answer: Result<usize, Refused>, bytes: &[u8]) 
     print_bytes(rt, bytes)
 }
 
-fn print_ends(rt: &impl Print, ends: &[End; MAX_INPUTS]) -> io::Result<()> {
-    for (i, end) in ends.iter().enumerate() {
-        if *end != NO_END {
-            print!(rt; " end {} {} {}", i + 1, end.low, end.high)?;
-        }
+// A part of a schedule, its kind, its place and its numbers, where these are not all zeros.
+fn print_part(rt: &impl Print, kind: &str, place: usize, numbers: &[i64]) -> io::Result<()> {
+    if numbers.iter().all(|&value| value == 0) {
+        return Ok(());
     }
-    Ok(())
-}
-
-fn print_steps(rt: &impl Print, steps: &[Step; MAX_STEPS]) -> io::Result<()> {
-    for (j, step) in steps.iter().enumerate() {
-        if *step != NO_STEP {
-            print!(rt;
-                " step {} {} {} {} {}",
-                j + 1,
-                step.code,
-                step.first,
-                step.second,
-                step.value
-            )?;
-        }
+    print!(rt; " {kind} {place}")?;
+    for value in numbers {
+        print!(rt; " {value}")?;
     }
     Ok(())
 }
@@ -289,222 +229,214 @@ fn print_schedule(rt: &impl Print, schedule: Schedule) -> io::Result<()> {
         " {} {} {}",
         schedule.inputs, schedule.squares, schedule.steps
     )?;
-    print_ends(rt, &schedule.ends)?;
-    print_steps(rt, &schedule.step)?;
+    (1..=MAX_INPUTS)
+        .zip(&schedule.ends)
+        .try_for_each(|(i, end)| print_part(rt, "end", i, &[end.low, end.high]))?;
+    (1..=MAX_STEPS).zip(&schedule.step).try_for_each(|(j, step)| {
+        print_part(
+            rt,
+            "step",
+            j,
+            &[step.code, step.first, step.second, step.value],
+        )
+    })?;
     println!(rt; "")
 }
 
-// ---- the calls, on the parts of the tables that are lent
+// ---- the tables
 
-// Fills the front of a table that is lent from now on: its length.
-fn lend(file: &mut impl Read, table: &mut [i64]) -> usize
-    ensures { result ≤ length table.old }
-{
-    let length = next_size(file).min(table.len());
-    let value = next_signed(file);
-    table[..length].fill(value);
-    length
+// A table, and how many numbers from its start on are lent. An array with a count, and no Vec: in fixed memory.
+#[derive(Clone, Copy)]
+struct Table<const N: usize> {
+    numbers: [i64; N],
+    lent: usize,
+    ghost lent_within: { lent ≤ N },
 }
 
-fn put(file: &mut impl Read, table: &mut [i64]) {
-    let place = next_size(file);
-    let value = next_signed(file);
-    if place < table.len() {
-        table[place] = value;
+impl<const N: usize> Table<N> {
+    fn new() -> Table<N> {
+        Table {
+            numbers: [0; N],
+            lent: 0,
+        }
+    }
+
+    // Lends so many numbers from now on, each of them the same.
+    fn lend(&mut self, file: &mut impl Read) {
+        let lent = next_size(file).min(N);
+        let value = next_signed(file);
+        self.numbers[..lent].fill(value);
+        self.lent = lent;
+    }
+
+    // Puts one number, where it is lent.
+    fn put(&mut self, file: &mut impl Read) {
+        let place = next_size(file);
+        let value = next_signed(file);
+        if let Some(number) = self.front_mut().get_mut(place) {
+            *number = value;
+        }
+    }
+
+    fn front(&self) -> &[i64] {
+        &self.numbers[..self.lent]
+    }
+
+    fn front_mut(&mut self) -> &mut [i64] {
+        let lent = self.lent;
+        let numbers = &mut self.numbers;
+        &mut numbers[..lent]
     }
 }
 
-fn evaluate(
-    rt: &impl Print,
+// ---- the calls
+
+// What is kept between calls, with the file that they are read from and where their lines go.
+#[derive(Drop)]
+struct Calls<'a, P> {
+    rt: &'a P,
+    file: File,
+    table: Table<TABLE_ROOM>,
+    ranges: Table<RANGES_ROOM>,
     schedule: Schedule,
-    table: &mut [i64],
-    ranges: &mut [i64],
-) -> io::Result<()> {
-    let answer = evaluation::evaluate(schedule, &mut *table, &mut *ranges);
-    print!(rt; "evaluate")?;
-    print_refusal(rt, answer)?;
-    println!(rt; "")?;
-    print_tables(rt, table, ranges)
 }
 
-fn range(rt: &impl Print, file: &mut impl Read, table: &[i64], ranges: &[i64]) -> io::Result<()> {
-    let count = next_size(file);
-    let row = next_size(file);
-    let answer = evaluation::range(table, ranges, count, row);
-    let (low, high) = match answer {
-        Ok(range) => (range.low, range.high),
-        Err(_) => (0, 0),
-    };
-    print!(rt; "range")?;
-    print_refusal(rt, answer)?;
-    println!(rt; " {low} {high}")
-}
-
-fn row(rt: &impl Print, file: &mut impl Read, table: &[i64]) -> io::Result<()> {
-    let count = next_size(file);
-    let row = next_size(file);
-    print!(rt; "row")?;
-    print_numbers(rt, evaluation::row(table, count, row))
-}
-
-fn same(rt: &impl Print, file: &mut impl Read, table: &[i64]) -> io::Result<()> {
-    let count = next_size(file);
-    let first = next_size(file);
-    let second = next_size(file);
-    let answer = evaluation::same(table, count, first, second);
-    print!(rt; "same")?;
-    print_refusal(rt, answer)?;
-    println!(rt; " {}", u8::from(answer.unwrap_or(false)))
-}
-
-fn write(rt: &impl Print, file: &mut impl Read, schedule: Schedule) -> io::Result<()> {
-    let mut room = [UNTOUCHED; WRITE_ROOM];
-    let length = next_size(file).min(WRITE_ROOM);
-    let out = &mut room[..length];
-    let answer = sheet::write(schedule, &mut *out);
-    print!(rt; "write")?;
-    print_written(rt, answer, out)
-}
-
-fn list(
-    rt: &impl Print,
-    file: &mut impl Read,
-    table: &mut [i64],
-    ranges: &mut [i64],
-) -> io::Result<()> {
-    let mut sheet_room = [0u8; SHEET_ROOM];
-    let mut text_room = [UNTOUCHED; LIST_ROOM];
-    let sheet_length = next_size(file).min(SHEET_ROOM);
-    let text_length = next_size(file).min(LIST_ROOM);
-    let sheet = &mut sheet_room[..sheet_length];
-    let text = &mut text_room[..text_length];
-    next_bytes(file, &mut *sheet);
-    let answer = listing::list(sheet, &mut *table, &mut *ranges, &mut *text);
-    print!(rt; "list")?;
-    print_written(rt, answer, text)?;
-    print_tables(rt, table, ranges)
-}
-
-fn formula(rt: &impl Print, file: &mut impl Read, schedule: Schedule) -> io::Result<()> {
-    let mut room = [0u8; FORMULA_ROOM];
-    let length = next_size(file).min(FORMULA_ROOM);
-    let text = &mut room[..length];
-    next_bytes(file, &mut *text);
-    let ends = schedule.ends;
-    let block = InputBlock {
-        inputs: schedule.inputs,
-        squares: schedule.squares,
-        ends,
-    };
-    let answer = formulas::read(block, text);
-    print!(rt; "formula")?;
-    print_refusal(rt, answer)?;
-    print_schedule(rt, answer.unwrap_or(sheet::zero_schedule()))
-}
-
-// Makes a call on the parts of the tables that are lent; the others change what is kept.
-fn make_call(
-    rt: &impl Print,
-    file: &mut impl Read,
-    call: Call,
-    schedule: Schedule,
-    table: &mut [i64],
-    ranges: &mut [i64],
-) -> io::Result<()> {
-    match call {
-        Call::PutNumber => {
-            put(file, table);
-            Ok(())
+impl<'a, P: Print> Calls<'a, P> {
+    fn new(rt: &'a P, file: File) -> Calls<'a, P> {
+        Calls {
+            rt,
+            file,
+            table: Table::new(),
+            ranges: Table::new(),
+            schedule: sheet::zero_schedule(),
         }
-        Call::Evaluate => evaluate(rt, schedule, table, ranges),
-        Call::Range => range(rt, file, table, ranges),
-        Call::Row => row(rt, file, table),
-        Call::Same => same(rt, file, table),
-        Call::Write => write(rt, file, schedule),
-        Call::List => list(rt, file, table, ranges),
-        Call::Formula => formula(rt, file, schedule),
-        Call::PutRangeNumber => {
-            put(file, ranges);
-            Ok(())
+    }
+
+    fn print_tables(&self) -> io::Result<()> {
+        print!(self.rt; "table")?;
+        print_numbers(self.rt, self.table.front())?;
+        print!(self.rt; "ranges")?;
+        print_numbers(self.rt, self.ranges.front())
+    }
+
+    fn evaluate(&mut self) -> io::Result<()> {
+        let answer = evaluation::evaluate(
+            self.schedule,
+            self.table.front_mut(),
+            self.ranges.front_mut(),
+        );
+        print!(self.rt; "evaluate")?;
+        print_refusal(self.rt, answer)?;
+        println!(self.rt; "")?;
+        self.print_tables()
+    }
+
+    fn range(&mut self) -> io::Result<()> {
+        let count = next_size(&mut self.file);
+        let row = next_size(&mut self.file);
+        let answer = evaluation::range(self.table.front(), self.ranges.front(), count, row);
+        let (low, high) = answer.map_or((0, 0), |range| (range.low, range.high));
+        print!(self.rt; "range")?;
+        print_refusal(self.rt, answer)?;
+        println!(self.rt; " {low} {high}")
+    }
+
+    fn row(&mut self) -> io::Result<()> {
+        let count = next_size(&mut self.file);
+        let row = next_size(&mut self.file);
+        print!(self.rt; "row")?;
+        print_numbers(self.rt, evaluation::row(self.table.front(), count, row))
+    }
+
+    fn same(&mut self) -> io::Result<()> {
+        let count = next_size(&mut self.file);
+        let first = next_size(&mut self.file);
+        let second = next_size(&mut self.file);
+        let answer = evaluation::same(self.table.front(), count, first, second);
+        print!(self.rt; "same")?;
+        print_refusal(self.rt, answer)?;
+        println!(self.rt; " {}", u8::from(answer.unwrap_or(false)))
+    }
+
+    fn write(&mut self) -> io::Result<()> {
+        let mut room = [UNTOUCHED; WRITE_ROOM];
+        let out = next_lent(&mut self.file, &mut room);
+        let answer = sheet::write(self.schedule, &mut *out);
+        print!(self.rt; "write")?;
+        print_written(self.rt, answer, out)
+    }
+
+    fn list(&mut self) -> io::Result<()> {
+        let mut sheet_room = [0u8; SHEET_ROOM];
+        let mut text_room = [UNTOUCHED; LIST_ROOM];
+        let sheet = next_lent(&mut self.file, &mut sheet_room);
+        let text = next_lent(&mut self.file, &mut text_room);
+        next_bytes(&mut self.file, &mut *sheet);
+        let answer = listing::list(
+            sheet,
+            self.table.front_mut(),
+            self.ranges.front_mut(),
+            &mut *text,
+        );
+        print!(self.rt; "list")?;
+        print_written(self.rt, answer, text)?;
+        self.print_tables()
+    }
+
+    fn formula(&mut self) -> io::Result<()> {
+        let mut room = [0u8; FORMULA_ROOM];
+        let text = next_lent(&mut self.file, &mut room);
+        next_bytes(&mut self.file, &mut *text);
+        let block = InputBlock {
+            inputs: self.schedule.inputs,
+            squares: self.schedule.squares,
+            ends: self.schedule.ends,
+        };
+        let answer = formulas::read(block, text);
+        print!(self.rt; "formula")?;
+        print_refusal(self.rt, answer)?;
+        print_schedule(self.rt, answer.unwrap_or(sheet::zero_schedule()))
+    }
+
+    // Makes one call.
+    fn make(&mut self, call: Call) -> io::Result<()> {
+        match call {
+            Call::LendTable => self.table.lend(&mut self.file),
+            Call::PutNumber => self.table.put(&mut self.file),
+            Call::TakeSchedule => self.schedule = next_schedule(&mut self.file),
+            Call::Evaluate => self.evaluate()?,
+            Call::Range => self.range()?,
+            Call::Row => self.row()?,
+            Call::Same => self.same()?,
+            Call::Write => self.write()?,
+            Call::List => self.list()?,
+            Call::TakeInputs => self.schedule = next_inputs(&mut self.file, self.schedule),
+            Call::Formula => self.formula()?,
+            Call::LendRanges => self.ranges.lend(&mut self.file),
+            Call::PutRangeNumber => self.ranges.put(&mut self.file),
         }
-        _ => Ok(()),
+        Ok(())
+    }
+
+    // Makes the calls up to the end. A code that is no call's is passed over.
+    fn make_all(&mut self) -> io::Result<()> {
+        // A proved loop ends, and nothing says that a file does: no run uses these turns up.
+        for _ in 0..u64::MAX {
+            let Some(call) = next_call(&mut self.file) else {
+                break;
+            };
+            if let Ok(call) = call {
+                self.make(call)?;
+            }
+        }
+        Ok(())
     }
 }
 
-// Makes the next call: the state after it, or none at the end. A code that is no call's is passed over.
-fn step(
-    rt: &impl Print,
-    file: &mut impl Read,
-    table: &mut [i64; TABLE_ROOM],
-    ranges: &mut [i64; RANGES_ROOM],
-    state: State,
-) -> io::Result<Option<State>> {
-    let Ok(call) = Call::try_from(next(file)) else {
-        return Ok(Some(state));
-    };
-    let State {
-        numbers,
-        ends,
-        schedule,
-    } = state;
-    let state = match call {
-        Call::End => return Ok(None),
-        Call::LendTable => State {
-            numbers: lend(file, table),
-            ends,
-            schedule,
-        },
-        Call::LendRanges => State {
-            numbers,
-            ends: lend(file, ranges),
-            schedule,
-        },
-        Call::TakeSchedule => State {
-            numbers,
-            ends,
-            schedule: next_schedule(file),
-        },
-        Call::TakeInputs => State {
-            numbers,
-            ends,
-            schedule: next_inputs(file, schedule),
-        },
-        _ => {
-            make_call(
-                rt,
-                file,
-                call,
-                schedule,
-                &mut table[..numbers],
-                &mut ranges[..ends],
-            )?;
-            state
-        }
-    };
-    Ok(Some(state))
-}
-
-fn make_calls(rt: &impl Print, file: &mut impl Read) -> io::Result<()> {
-    let mut table = [0i64; TABLE_ROOM];
-    let mut ranges = [0i64; RANGES_ROOM];
-    let mut state = State {
-        numbers: 0,
-        ends: 0,
-        schedule: sheet::zero_schedule(),
-    };
-    // A proved loop ends, and nothing says that a file does: no run uses these turns up.
-    for _ in 0..u64::MAX {
-        match step(rt, file, &mut table, &mut ranges, state)? {
-            Some(next) => state = next,
-            None => break,
-        }
-    }
-    Ok(())
-}
-
+// `main` of sheet_cases is alike, in another program: what both do is the library's `open`, and `fail` of streams.
 fn main(rt: HostRuntime) -> io::Result<()> {
     match File::open(&rt, "calls") {
-        Ok(mut file) => make_calls(&rt, &mut file),
+        Ok(file) => Calls::new(&rt, file).make_all(),
         Err(e) => {
             streams::fail(&rt, "calls", e);
             Ok(())

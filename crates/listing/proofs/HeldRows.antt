@@ -13,7 +13,10 @@ use Rattle.evaluation.specs.Table.{row_width, row_part, row_at, range_at, Ranges
 use Rattle.evaluation.specs.Asking.{range_told, range_of, same_of}
 use Rattle.evaluation.proofs.AskingLaws.{range_told_of, part_told_of, same_told_of}
 use Rattle.listing.specs.Listing.{own}
-use Rattle.listing.specs.Held.{RowHeld}
+use Rattle.listing.specs.Held.{RowsHeld, RowHeld}
+
+pub row_held : {table : List ℤ} {count row : ℕ} → RowsHeld table count → (1 ≤ row) × (row ≤ count) → RowHeld table count row
+row_held h within = record { rows = h; from_one = within.0; up_to = within.1 }
 
 module _ {table : List ℤ} {count row : ℕ} (h : RowHeld table count row) where
   pub row_room : row_width * (row - 1) + row_width ≤ length table
@@ -30,8 +33,5 @@ module _ {table : List ℤ} {count row : ℕ} (h : RowHeld table count row) wher
 
   -- an earlier row
   module _ {earlier : ℕ} (from_one : 1 ≤ earlier) (before : earlier < row) where
-    pub earlier_room : row_width * (earlier - 1) + row_width ≤ length table
-    earlier_room = omega (arith, h.up_to, h.rows.within.room)
-
     pub earlier_same : (same_of table count earlier row).same ≡ same (row_at table (earlier - 1)) (row_at table (row - 1))
     earlier_same = ap (λ a. a.same) (same_told_of table count h.rows.few h.rows.within earlier row from_one (omega arith) h.up_to)

@@ -1,20 +1,29 @@
 -- The text of a sheet, by how its reading and its evaluation ended, and what the call leaves.
-use mathlib.Core.Path.{◌≡◌, sym, ap, ◌∙◌}
+use mathlib.Core.Path.{◌≡◌, refl, sym, ap, ◌∙◌}
 use mathlib.Core.List.{List}
 use Prim.Native.Nat.{ℕ, ◌≤◌, ◌<◌}
 use native.Mathlib.Nat.{zero-add}
 use borrow.Author.Tests.{eq-eqb, ne_eqb, lt-ltb, le-ltb}
 use lib.IntN.{ℤ}
 use lib.ListN.{length}
+use Rattle.std.specs.Prelude.{Result, Ok, Err}
+use Rattle.std.specs.Result.{result_unwrap_or}
 use Rattle.sheet.specs.declared.Schedule.{Schedule}
+use Rattle.sheet.specs.declared.causes.Refused.{Refused}
 use Rattle.sheet.specs.Answers.{WriteAnswer}
 use Rattle.sheet.specs.Causes.{accepted, bytes_too_short}
 use Rattle.sheet.specs.Reading.{read_of}
+use Rattle.sheet.specs.Results.{write_answer}
 use Rattle.sheet.specs.Writing.{not_written}
 use Rattle.sheet.specs.Wrote.{Wrote}
 use Rattle.evaluation.specs.Work.{row_count, evaluated}
 use Rattle.listing.specs.Listing.{listing, refusal_text, table_left, ranges_left, schedule_text, text_of, table_of, ranges_of}
 use Rattle.listing.specs.Listed.{text_room, Listed}
+
+-- how many bytes were written, or 0 beside a refusal, as the programs take it
+pub length_told : (answer : Result ℕ Refused) → result_unwrap_or answer 0 ≡ (write_answer answer).length
+length_told (Ok n) = refl
+length_told (Err r) = refl
 
 module _ (c : Schedule) (table ranges : List ℤ) where
   pub schedule_listed : (evaluated c table ranges).refusal.number ≡ 0

@@ -8,7 +8,7 @@ ghost use Rattle.listing.specs.Listing.{schedule_text, table_left, ranges_left};
 ghost use Rattle.listing.specs.Listed.{Listed, text_room};
 
 use rows::Rows;
-use sheet::{Cause, Refused, Schedule};
+use sheet::{Cause, Refused, Schedule, ensure};
 
 mod rows; // rows.rt: the line of a row
 mod texts; // texts.rt: the listing of a table's rows, and a refusal
@@ -19,7 +19,7 @@ pub use texts::put_refusal;
 // As many bytes as every text fits into.
 pub const TEXT_ROOM: usize = 4096;
 
-// Evaluates a schedule into the lent tables and writes its listing, or its refusal.
+// Evaluates a schedule into the lent tables and writes its listing, or its refusal. It asks for the room that `list` has tested.
 fn list_schedule(
     schedule: Schedule,
     table: &mut [i64],
@@ -40,7 +40,7 @@ fn list_schedule(
             };
             texts::put_listing(text, &rows)
         }
-        Err(refused) => texts::put_refusal(text, refused),
+        Err(refused) => texts::put_refusal(text, refused.cause.number(), refused.place),
     }
 }
 
@@ -54,14 +54,9 @@ pub fn list(
 ) -> Result<usize, Refused>
     ensures { Listed sheet.now table.old table.new ranges.old ranges.new text.old text.new (write_answer result) }
 {
-    if text.len() < TEXT_ROOM {
-        return Err(Refused {
-            cause: Cause::RoomTooShort,
-            place: 0,
-        });
-    }
+    ensure(TEXT_ROOM <= text.len(), Cause::RoomTooShort, 0)?;
     Ok(match sheet::read(sheet) {
         Ok(schedule) => list_schedule(schedule, table, ranges, text),
-        Err(refused) => texts::put_refusal(text, refused),
+        Err(refused) => texts::put_refusal(text, refused.cause.number(), refused.place),
     })
 }

@@ -8,9 +8,10 @@ ghost use Rattle.listing.specs.Held.{RowsHeld};
 
 use evaluation::table;
 
-/// So many rows of a table, and their ranges of another.
+/// So many rows of a table, and their ranges of another. The count stands beside the slices, which are the caller's whole tables: cut to the rows, each of
+/// the slices would still be one of numbers, and their count a division.
 #[derive(Clone, Copy)]
-pub struct Rows<'a> {
+pub(crate) struct Rows<'a> {
     pub table: &'a [i64],
     pub ranges: &'a [i64],
     pub count: usize,
@@ -19,17 +20,14 @@ pub struct Rows<'a> {
 }
 
 impl<'a> Rows<'a> {
+    // Each asks for the number of one of the rows: they are counted from 1, as they are printed.
+
     // The first earlier row with identical numbers.
     fn first_same(&self, row: usize) -> Option<usize>
         requires { (1 ≤ row) × (row ≤ self.now.count) }
         ensures { unwrap_or result 0 ≡ first_same self.now.table.now self.now.count row }
     {
-        for earlier in 1..row {
-            if table::same_rows(self.table, earlier - 1, row - 1) {
-                return Some(earlier);
-            }
-        }
-        None
+        (1..row).find(|&earlier| table::same_rows(self.table, earlier - 1, row - 1))
     }
 
     // A row's own coefficient: it stands behind the centre and the coefficients of the symbols before it.
@@ -41,11 +39,12 @@ impl<'a> Rows<'a> {
     }
 
     // The numbers of a row's line.
-    pub fn numbers(&self, row: usize) -> [i64; 5]
+    pub(crate) fn numbers(&self, row: usize) -> [i64; 5]
         requires { (1 ≤ row) × (row ≤ self.now.count) }
         ensures { result ≡ row_numbers self.now.table.now self.now.ranges.now self.now.count row }
     {
         let range = table::get_range(self.ranges, row - 1);
+        // 0 for none, as it is printed
         let same = self.first_same(row).unwrap_or(0);
         [
             row as i64,

@@ -8,7 +8,7 @@ use Rattle.affine.specs.declared.NoRow.{NoRow}
 use Rattle.affine.specs.declared.Row.{Row}
 use Rattle.affine.specs.declared.Range.{Range}
 use Rattle.affine.specs.declared.Made.{Made}
-use Rattle.affine.specs.Answer.{Answer, Accepted}
+use Rattle.affine.specs.Answer.{Answer}
 use Rattle.affine.specs.Told.{answer_of}
 use Rattle.affine.specs.Row.{span, radius, NoneFrom}
 use Rattle.affine.specs.Steps.{accepted, checked_with}

@@ -11,7 +11,7 @@ use lib.ListN.{length, take, drop, length-drop, get_or, drop_of_length-le, get_o
 use lib.Seq.{drop-cons, take-length, get_or-drop}
 use Rattle.std.specs.Prelude.{Option, Some, None}
 use Rattle.sheet.specs.Results.{as_digit}
-use Rattle.sheet.specs.declared.number.Run.{Run}
+use Rattle.sheet.specs.declared.number.Found.{Found}
 use Rattle.sheet.specs.Number.{run, digit_of, run_of}
 use Rattle.sheet.proofs.Choice.{pick_elim}
 
@@ -34,7 +34,7 @@ module _ (s : List ℕ) (i v : ℕ) where
   run_end h = rw (drop_of_length-le s h)
 
 -- a run's value and end
-pub record Within (a p n : ℕ) (r : Run) : Type 0 where
+pub record Within (a p n : ℕ) (r : Found ℕ) : Type 0 where
   pub small : r.value < 10000000000
   pub from : p ≤ r.next
   pub upto : r.next ≤ p + n

@@ -15,7 +15,7 @@ use lib.Seq.{drop-nil, get_or-drop, get_or-append_seam, drop-cons, drop-drop}
 use lib.ListN.{length, drop, get_or, length-append}
 use Rattle.sheet.specs.Choice.{pick}
 use Rattle.sheet.specs.Number.{digit_of, run, run_of, signed_of, judged, after_sign, field_at}
-use Rattle.sheet.specs.declared.number.Run.{Run}
+use Rattle.sheet.specs.declared.number.Found.{Found}
 use Rattle.sheet.specs.Answers.{Field, Number, Broken}
 use Rattle.sheet.specs.Text.{decimal, numeral}
 use Rattle.sheet.proofs.Choice.{pick_elim}
@@ -170,7 +170,7 @@ unfolding run
 run_text a p [] h g = rw (drop-nil (p - p))
 run_text a p (b ∷ bs) h g =
     let x : p - p ≡ 0 = omega arith in
-    let P : Run → Type 0 = λ r. decimal 10 a ++ (b ∷ bs) ≡ decimal 10 r.value ++ drop (r.next - p) (b ∷ bs) in
+    let P : Found ℕ → Type 0 = λ r. decimal 10 a ++ (b ∷ bs) ≡ decimal 10 r.value ++ drop (r.next - p) (b ∷ bs) in
     let stop : decimal 10 a ++ (b ∷ bs) ≡ decimal 10 a ++ drop (p - p) (b ∷ bs) = rw x in
     pick_elim P (ltb (digit_of b) 10) _ _
     (λ e. pick_elim P (ltb a 1000000000) _ _ (λ f.
@@ -189,8 +189,8 @@ run_still : (a p : ℕ) (bs : List ℕ) → (run a p bs).next ≡ p → (run a p
 unfolding run
 run_still a p [] = λ h. refl
 run_still a p (b ∷ bs) =
-    pick_elim (λ (r : Run). r.next ≡ p → r.value ≡ a) (ltb (digit_of b) 10) _ _
-    (λ e. pick_elim (λ (r : Run). r.next ≡ p → r.value ≡ a) (ltb a 1000000000) _ _
+    pick_elim (λ (r : Found ℕ). r.next ≡ p → r.value ≡ a) (ltb (digit_of b) 10) _ _
+    (λ e. pick_elim (λ (r : Found ℕ). r.next ≡ p → r.value ≡ a) (ltb a 1000000000) _ _
     (λ f h. absurd (omega (arith, h, (run_within (a * 10 + digit_of b) (suc p) bs (omega (arith, ltb-true (digit_of b) 10 e, ltb-true a 1000000000 f))).from)))
     (λ f h. refl))
     (λ e h. refl)
@@ -208,7 +208,7 @@ run_first p (b ∷ bs) =
     let y : 0 * 10 + d ≡ d = omega arith in
     let w = run_within (0 * 10 + d) (suc p) bs (omega arith) in
     let n : (run (0 * 10 + d) (suc p) bs).next - p ≡ suc ((run (0 * 10 + d) (suc p) bs).next - suc p) = omega (arith, w.from) in
-    let R : Run = run (0 * 10 + d) (suc p) bs in
+    let R : Found ℕ = run (0 * 10 + d) (suc p) bs in
     let go : Dec (0 < d) → decimal 10 (0 * 10 + d) ++ bs ≡ decimal 10 R.value ++ drop (R.next - suc p) bs =
     elim [
       | yes l ↦ run_text (0 * 10 + d) (suc p) bs (omega arith) (omega arith)
@@ -221,7 +221,7 @@ run_first p (b ∷ bs) =
     rw n (ap (λ (x : ℕ). x ∷ bs) (undigit b dl) ∙ ap (λ (l : List ℕ). l ++ bs) (sym one) ∙ go (dec_lt 0 d)))
     (λ e h z. absurd (omega arith))
   where
-    P : Run → Type 0
+    P : Found ℕ → Type 0
     P r = p < r.next → (b ≡ 48 → r.next ≡ p + 1) → b ∷ bs ≡ decimal 10 r.value ++ drop (r.next - p) (b ∷ bs)
 
 -- what an accepted field says of the numeral
@@ -235,7 +235,7 @@ module _ (s : List ℕ) (minus : Bool) (q t : ℕ) (w : ℤ) (n : ℕ) (t0 : 0 <
       → (v : ℕ) × (w ≡ signed_of minus v) × (v < 10000000000) × (drop q s ≡ decimal 10 v ++ (t ∷ drop n s)) × (n ≤ length s) × (minus ≡ true → v ≡ 0 → ⊥)
   unfolding after_sign
   after_sign_inv p =
-      let R : Run = run 0 q (drop q s) in
+      let R : Found ℕ = run 0 q (drop q s) in
       let e : ℕ = R.next in
       let j = judged_inv minus R.value q e (get_or s q 0) (get_or s e 0) t w n p in
       let wi = run_within 0 q (drop q s) (omega arith) in

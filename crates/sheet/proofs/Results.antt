@@ -1,15 +1,18 @@
 -- What the answers of `specs/Results.antt` say of the results: each leaves one result, no cause has number 0, and what the callers of `read`, `test` and `write` need.
-use Rattle.std.proofs.Common.{◌≡◌, refl, sym, ap, ◌∙◌, ℕ, ◌<◌, Option, Some, None, Result, Ok, Err, ℤ, pos, arith}
+use Rattle.std.proofs.Common.{Bool, true, false, ◌≡◌, refl, sym, ap, ◌∙◌, ℕ, ◌<◌, Option, Some, None, Result, Ok, Err, ℤ, pos, arith}
 use lib.Dec.{eqb}
+use borrow.Author.Tests.{eq-eqb, ne_eqb}
+use native.Mathlib.Decide.{ℕ_discrete}
 use Rattle.sheet.specs.Choice.{pick}
 use Rattle.sheet.specs.Answers.{Refusal, ReadAnswer, WriteAnswer, Field, Number, Broken}
-use Rattle.sheet.specs.Causes.{accepted}
-use Rattle.sheet.specs.Results.{number, refusal_of, tested, read_answer, write_answer, field, fault_of}
+use Rattle.sheet.specs.Causes.{refusal, accepted}
+use Rattle.sheet.specs.Results as Spec
+use Rattle.sheet.specs.Results.{number, refusal_of, tested, read_answer, write_answer, field, fault_told}
 use Rattle.sheet.specs.declared.Schedule.{Schedule}
 use Rattle.sheet.specs.declared.causes.Cause.{Cause}
 use Rattle.sheet.specs.declared.causes.Cause.TheVariants.{SheetTooLong, LineBroken, CountWrong, EndWrong, StepWrong, SpanPassed, ZeroInRange, RoomTooShort, NoSuchRow, NoFormula, StepCount, NoRoot}
 use Rattle.sheet.specs.declared.causes.Refused.{Refused}
-use Rattle.sheet.specs.declared.number.Number.{Number as FoundNumber}
+use Rattle.sheet.specs.declared.number.Found.{Found}
 
 -- the cause that has a number
 unfoldable cause_of : ℕ → Cause
@@ -69,6 +72,32 @@ refusal_one a b e =
     let p : a.place ≡ b.place = ap (λ (r : Refusal). r.place) e in
     rw (c, p)
 
+-- a test that passes answers nothing, and one that does not its refusal
+pub ensured : (p : Bool) {u : Unit {0}} (c : Cause) (n : ℕ) → Ok u ≡ Spec.ensured p c n → p ≡ true
+ensured true c n e = refl
+ensured false c n e = search e
+
+pub not_ensured : (p : Bool) (r : Refused) (c : Cause) (n : ℕ) → Err r ≡ Spec.ensured p c n → (p ≡ false) × (r ≡ record { cause = c; place = n })
+not_ensured true r c n e = search e
+not_ensured false r c n e = (refl, search e)
+
+-- an error is one
+pub error_one : {T E : Type 0} (x y : E) → ◌≡◌ {A = Result T E} (Err x) (Err y) → x ≡ y
+error_one x y e = search e
+
+-- the test of a line, by its fault
+pub told_none : (f n : ℕ) → accepted ≡ fault_told f n → f ≡ 0
+told_none f n e = elim (ℕ_discrete f 0) [
+  | yes z ↦ z
+  | no z ↦ absurd (z (sym (ap (λ (r : Refusal). r.number) (simp (ne_eqb f 0 z) at e))))
+]
+
+pub told_some : (r : Refused) (f n : ℕ) → refusal_of r ≡ fault_told f n → (f ≡ 0 → ⊥) × (refusal_of r ≡ refusal f n)
+told_some r f n e = elim (ℕ_discrete f 0) [
+  | yes z ↦ absurd (number_some r.cause (ap (λ (q : Refusal). q.number) (simp (eq-eqb f 0 z) at e)))
+  | no z ↦ (z, simp (ne_eqb f 0 z) at e)
+]
+
 -- an answer leaves one result
 pub tested_one : (a b : Result (Unit {0}) Refused) → tested a ≡ tested b → a ≡ b
 tested_one (Ok x) (Ok y) e = refl
@@ -88,12 +117,6 @@ write_answer_one (Ok x) (Err y) e = absurd (number_some y.cause (ap (λ (r : Wri
 write_answer_one (Err x) (Ok y) e = absurd (number_some x.cause (ap (λ (r : WriteAnswer). r.refusal.number) e))
 write_answer_one (Err x) (Err y) e = ap (λ (r : Refused). Err r) (refusal_one x y (ap (λ (r : WriteAnswer). r.refusal) e))
 
-pub fault_one : (a b : Result (Unit {0}) Cause) → fault_of a ≡ fault_of b → a ≡ b
-fault_one (Ok x) (Ok y) e = refl
-fault_one (Ok x) (Err y) e = absurd (number_some y (sym e))
-fault_one (Err x) (Ok y) e = absurd (number_some x e)
-fault_one (Err x) (Err y) e = ap (λ (c : Cause). Err c) (number_one x y e)
-
 -- what a number is where a field was read
 unfoldable value_in : Field → ℤ
 value_in (Number v n) = v
@@ -107,7 +130,7 @@ unfoldable is_number : Field → ℕ
 is_number (Number v n) = 1
 is_number Broken = 0
 
-pub field_one : (a b : Option FoundNumber) → field a ≡ field b → a ≡ b
+pub field_one : (a b : Option (Found ℤ)) → field a ≡ field b → a ≡ b
 unfolding value_in next_in is_number
 field_one None None e = refl
 field_one None (Some y) e = absurd (let n : ◌≡◌ {A = ℕ} 0 1 = ap is_number e in omega arith)

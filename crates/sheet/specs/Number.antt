@@ -1,18 +1,18 @@
 -- Reading a number field. `proofs/Numeral.antt` shows that exactly the numerals of `Text.antt` are accepted.
 use Rattle.std.specs.Prelude.{Bool, true, false, List, [], ◌∷◌, ℕ, suc, ◌+◌, ◌-◌, ◌*◌, leb, ltb, eqb, get_or, drop, ℤ, pos, neg_ℤ}
 use Rattle.sheet.specs.Choice.{pick}
-use Rattle.sheet.specs.declared.number.Run.{Run}
+use Rattle.sheet.specs.declared.number.Found.{Found}
 use Rattle.sheet.specs.Answers.{Field, Number, Broken}
 
 -- The digit that a byte stands for, or 10.
 abbrev pub digit_of : ℕ → ℕ
 digit_of b = pick (ltb b 48) 10 (pick (leb b 57) (b - 48) 10)
 
-abbrev pub run_of : ℕ → ℕ → Run
+abbrev pub run_of : ℕ → ℕ → Found ℕ
 run_of value next = record { value = value; next = next }
 
 -- The digits from position `p` on, with `a` the value of those before them. It stops before a value of 11 digits.
-unfoldable pub run : ℕ → ℕ → List ℕ → Run
+unfoldable pub run : ℕ → ℕ → List ℕ → Found ℕ
 run a p [] = run_of a p
 run a p (b ∷ bs) =
     pick (ltb (digit_of b) 10)

@@ -1,6 +1,6 @@
 -- The answer of `Answers.antt` that each result of the code stands for: "Where the answer is an enum, there is a definition that gives
 -- this paper's number and values for each of its cases."
-use Rattle.std.specs.Prelude.{Option, Some, None, Result, Ok, Err, ℕ, true, ltb}
+use Rattle.std.specs.Prelude.{Bool, true, false, Option, Some, None, Result, Ok, Err, List, ◌∷◌, ◌++◌, ℕ, ℤ, eqb, ltb, decimal}
 use Rattle.sheet.specs.Choice.{pick}
 use Rattle.sheet.specs.Answers.{Refusal, ReadAnswer, WriteAnswer, Field, Number, Broken, Fields, Part}
 use Rattle.sheet.specs.Causes.{refusal, accepted}
@@ -11,8 +11,7 @@ use Rattle.sheet.specs.declared.Schedule.{Schedule}
 use Rattle.sheet.specs.declared.causes.Cause.{Cause}
 use Rattle.sheet.specs.declared.causes.Cause.TheVariants.{SheetTooLong, LineBroken, CountWrong, EndWrong, StepWrong, SpanPassed, ZeroInRange, RoomTooShort, NoSuchRow, NoFormula, StepCount, NoRoot}
 use Rattle.sheet.specs.declared.causes.Refused.{Refused}
-use Rattle.sheet.specs.declared.number.Number.{Number as FoundNumber}
-use Rattle.sheet.specs.declared.fields.Fields.{Fields as FoundFields}
+use Rattle.sheet.specs.declared.number.Found.{Found}
 
 -- The numbers of the table of "Causes and what follows" (manual, section 6).
 abbrev pub number : Cause → ℕ
@@ -32,6 +31,15 @@ number NoRoot = 12
 abbrev pub refusal_of : Refused → Refusal
 refusal_of r = refusal (number r.cause) r.place
 
+-- A refusal as it is printed: number, a blank, place.
+abbrev pub refused_text : Refused → List ℕ
+refused_text r = decimal (number r.cause) ++ (32 ∷ decimal r.place)
+
+-- What a test answers: nothing where it passes, else the refusal for a cause at a place.
+abbrev pub ensured : Bool → Cause → ℕ → Result (Unit {0}) Refused
+ensured true cause place = Ok tt
+ensured false cause place = Err (record { cause = cause; place = place })
+
 -- "An accepted call has number 0 and place 0."
 abbrev pub tested : Result (Unit {0}) Refused → Refusal
 tested (Ok u) = accepted
@@ -50,25 +58,19 @@ write_answer (Err r) = not_written (refusal_of r)
 abbrev pub as_digit : ℕ → Option ℕ
 as_digit d = pick (ltb d 10) (Some d) None
 
-abbrev pub field : Option FoundNumber → Field
+abbrev pub field : Option (Found ℤ) → Field
 field (Some n) = Number n.value n.next
 field None = Broken
 
-abbrev pub fields : Option FoundFields → Fields
-fields (Some f) = record { ok = true; next = f.next; values = f.values }
+abbrev pub fields : Option (Found (List ℤ)) → Fields
+fields (Some f) = record { ok = true; next = f.next; values = f.value }
 fields None = no_fields
 
--- The fault of a line, or 0.
-abbrev pub fault_of : Result (Unit {0}) Cause → ℕ
-fault_of (Ok u) = 0
-fault_of (Err c) = number c
+-- What the test of text line `n` answers, by the line's fault, or 0.
+abbrev pub fault_told : ℕ → ℕ → Refusal
+fault_told fault n = pick (eqb fault 0) accepted (refusal fault n)
 
--- Line `n`, read into a schedule that is `c` afterwards, up to the position that is answered.
-abbrev pub line_part : ℕ → Schedule → Result ℕ Cause → Part
-line_part n c (Ok next) = part_read next c
-line_part n c (Err cause) = part_refused (refusal (number cause) n)
-
--- The same of several lines.
+-- One line or several, read into a schedule that is `c` afterwards, up to the position that is answered.
 abbrev pub part : Schedule → Result ℕ Refused → Part
 part c (Ok next) = part_read next c
 part c (Err r) = part_refused (refusal_of r)

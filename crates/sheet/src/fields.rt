@@ -5,14 +5,7 @@ ghost use Rattle.sheet.specs.Reading.{fields_at};
 ghost use Rattle.sheet.specs.Results.{fields};
 ghost use Rattle.sheet.specs.Wrote.{Wrote};
 
-use crate::number;
-
-// A line of up to four numbers: where the next line starts, and the numbers, in fixed memory with zeros behind them.
-#[derive(Clone, Copy)]
-pub struct Fields {
-    pub next: usize,
-    pub values: [i64; 4],
-}
+use crate::number::{self, Found};
 
 // The byte that ends field i of k.
 fn end_byte(i: usize, k: usize) -> u8
@@ -22,19 +15,23 @@ fn end_byte(i: usize, k: usize) -> u8
     if i + 1 == k { b'\n' } else { b' ' }
 }
 
-// The line of k numbers that starts at a position.
-pub fn fields_at(s: &[u8], at: usize, k: usize) -> Option<Fields>
+// The line of k numbers, up to four, that starts at a position, with zeros behind them: in fixed memory.
+pub(crate) fn fields_at(s: &[u8], at: usize, k: usize) -> Option<Found<[i64; 4]>>
     requires { (at ≤ length s.now) × (k ≤ 4) }
     ensures { fields result ≡ fields_at s.now at k }
 {
     let mut values = [0i64; 4];
     let mut next = at;
+    // by the index: it tells the byte that ends the field too
     for i in 0..k {
         let n = number::field_at(s, next, end_byte(i, k))?;
         values[i] = n.value;
         next = n.next;
     }
-    Some(Fields { next, values })
+    Some(Found {
+        value: values,
+        next,
+    })
 }
 
 // Writes the bytes t from a position on.

@@ -17,13 +17,13 @@ mod tests; // tests.rt: the tests 3, 4 and 5 of a line's numbers, and of a sched
 mod reader; // reader.rt: a sheet read, line by line
 mod writer; // writer.rt: a schedule written, line by line
 
-// Why a call is refused, and what a count is as a natural number, for the callers of `test`.
-pub use causes::{Cause, Refused};
+// Why a call is refused, a test with its refusal, and what a count is as a natural number, for the callers of `test`.
+pub use causes::{Cause, Refused, ensure};
 pub use lines::natural;
 
 // Bytes, a number, a count and a line of numbers written at a position, for libraries that write lines of their own; a number field, read.
 pub use fields::{put_bytes, put_fields};
-pub use number::{Number, byte, digit, field_at, put_count, put_number};
+pub use number::{Found, byte, digit, field_at, put_count, put_number};
 
 // The limits of a sheet (manual, section 2.4); specs/Limits.antt has the same names for definitions and laws.
 pub const MAX_INPUTS: usize = 6;
@@ -46,7 +46,7 @@ pub struct End {
 }
 
 impl End {
-    const ZERO: End = End { low: 0, high: 0 };
+    pub const ZERO: End = End { low: 0, high: 0 };
 }
 
 // A step: its code, the rows that it names, and a constant. The code is a number and no enum: any schedule may be handed over, and is tested.
@@ -59,7 +59,7 @@ pub struct Step {
 }
 
 impl Step {
-    const ZERO: Step = Step {
+    pub const ZERO: Step = Step {
         code: 0,
         first: 0,
         second: 0,
@@ -67,7 +67,8 @@ impl Step {
     };
 }
 
-// A schedule: its counts, and with room for all that the limits allow the ends of its inputs and its steps.
+// A schedule: its counts, and with room for all that the limits allow the ends of its inputs and its steps. Counts beside arrays, and no Vec: in fixed
+// memory, and any counts may be handed over.
 #[derive(Clone, Copy, Debug, PartialEq, Eq)]
 pub struct Schedule {
     pub inputs: i64,
@@ -93,25 +94,16 @@ pub enum Line {
 pub fn read(bytes: &[u8]) -> Result<Schedule, Refused>
     ensures { read_answer result ≡ read_of bytes.now }
 {
-    if MAX_BYTES < bytes.len() {
-        return Err(Refused {
-            cause: Cause::SheetTooLong,
-            place: 0,
-        });
-    }
+    ensure(bytes.len() <= MAX_BYTES, Cause::SheetTooLong, 0)?;
     reader::read_sheet(bytes)
 }
 
-// Tests a schedule by 3, 4 and 5 as its lines would stand.
+// Tests a schedule by 3, 4 and 5 as its lines would stand. Kept apart: put into an evaluation it takes 200 instructions more there.
+#[inline(never)]
 pub fn test(schedule: Schedule) -> Result<(), Refused>
     ensures { tested result ≡ test_of schedule }
 {
-    if !schedule.counts_pass() {
-        return Err(Refused {
-            cause: Cause::CountWrong,
-            place: 2,
-        });
-    }
+    ensure(schedule.counts_pass(), Cause::CountWrong, 2)?;
     // block by block: over text lines, each asked for its kind as the reader asks, the test takes nearly twice as long
     let inputs = schedule.input_count();
     let steps = schedule.step_count();
@@ -144,12 +136,7 @@ pub fn write(schedule: Schedule, out: &mut [u8]) -> Result<usize, Refused>
     test(schedule)?;
     let mut sheet = [0u8; MAX_BYTES];
     let n = writer::put_lines(&mut sheet, &schedule, schedule.lines_left() + 2);
-    if out.len() < n {
-        return Err(Refused {
-            cause: Cause::RoomTooShort,
-            place: 0,
-        });
-    }
+    ensure(n <= out.len(), Cause::RoomTooShort, 0)?;
     fields::put_bytes(out, 0, &sheet[..n]);
     Ok(n)
 }

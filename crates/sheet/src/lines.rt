@@ -1,5 +1,5 @@
 // What each line of a sheet holds, and where its numbers have their place in a schedule.
-ghost use Rattle.std.specs.Prelude.{◌≡◌, ◌<◌, ◌^◌};
+ghost use Rattle.std.specs.Prelude.{◌≡◌, ◌<◌, ◌^◌, IfSome, IfNone};
 ghost use Rattle.sheet.specs.Lines as Spec;
 ghost use Rattle.sheet.specs.Reading.{padded};
 
@@ -28,7 +28,7 @@ fn line_of(inputs: usize, n: usize) -> Line
 }
 
 impl Line {
-    // How many numbers a line holds.
+    // How many numbers a line holds; a line of names holds none.
     pub(crate) fn width(self) -> usize
         ensures { result ≡ Spec.width self }
     {
@@ -41,26 +41,28 @@ impl Line {
     }
 
     // The names of a line of names, with their line end.
-    pub(crate) fn names(self) -> &'static [u8]
-        ensures { result.now ≡ Spec.names self }
+    pub(crate) fn names(self) -> Option<&'static [u8]>
+        ensures text { IfSome result (λ t. (Spec.width self ≡ 0) × (t.now ≡ Spec.names self)) }
+        ensures none { IfNone result (0 < Spec.width self) }
     {
         match self {
-            Line::CountNames => b"inputs squares steps\n",
-            Line::EndNames => b"low high\n",
-            Line::StepNames => b"step first second value\n",
-            _ => b"",
+            Line::CountNames => Some(b"inputs squares steps\n"),
+            Line::EndNames => Some(b"low high\n"),
+            Line::StepNames => Some(b"step first second value\n"),
+            Line::CountLine | Line::EndLine(_) | Line::StepLine(_, _) => None,
         }
     }
 }
 
 impl Schedule {
-    // How many inputs there are, and how many steps.
+    // How many inputs there are. As in `step_count`, one line over `natural`.
     pub(crate) fn input_count(&self) -> usize
         ensures { result ≡ Spec.natural self.now.inputs }
     {
         natural(self.inputs)
     }
 
+    // How many steps there are.
     pub(crate) fn step_count(&self) -> usize
         ensures { result ≡ Spec.natural self.now.steps }
     {
@@ -82,7 +84,7 @@ impl Schedule {
         self.input_count() + self.step_count() + 2
     }
 
-    // The ends of input i, zeros beyond the room for inputs.
+    // The ends of input i, zeros beyond the room for inputs. Not one generic function with `step_at`: each is one line over the library's `get`.
     pub(crate) fn ends_at(&self, i: usize) -> &End
         ensures { result.now ≡ Spec.ends_at self.now i }
     {
@@ -96,7 +98,7 @@ impl Schedule {
         self.step.get(i).unwrap_or(&Step::ZERO)
     }
 
-    // The numbers that a line of the schedule's sheet holds, and zeros behind them.
+    // The numbers that a line of the schedule's sheet holds, and zeros behind them: in fixed memory, and `width` tells how many count. A line of names holds none.
     #[tactic(auto, unfolding(crate::specs::Lines::numbers))]
     pub(crate) fn numbers(&self, l: Line) -> [i64; 4]
         ensures { result ≡ padded (Spec.numbers self.now l) }

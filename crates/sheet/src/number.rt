@@ -1,22 +1,15 @@
 // A number field: an optional minus and 1 to 10 decimal digits, with the byte that ends it. Read and written.
-// The bytes stand with a position, and not as what is left of them: specs/Number.antt says by positions what stands there.
-ghost use Rattle.std.specs.Prelude.{◌≡◌, ◌++◌, ◌∷◌, [], ◌+◌, ◌≤◌, ◌<◌, ◌^◌, length, drop, get_or, pos, nat_abs};
-ghost use Rattle.sheet.specs.Number.{digit_of, run, signed_of, judged, after_sign, field_at};
+// The bytes stand with a position, and not as what is left of them: specs/Number.antt and specs/Wrote.antt say by positions what stands there.
+ghost use Rattle.std.specs.Prelude.{◌≡◌, ◌++◌, ◌∷◌, [], ◌+◌, ◌≤◌, ◌<◌, length, drop, get_or, pos};
+ghost use Rattle.sheet.specs.Number.{digit_of, run, signed_of, after_sign, field_at};
 ghost use Rattle.sheet.specs.Text.{decimal, numeral};
 ghost use Rattle.sheet.specs.Results.{as_digit, field};
 ghost use Rattle.sheet.specs.Wrote.{Wrote};
 
-// A run of digits: its value, and the position past it.
-#[derive(Clone, Copy)]
-pub struct Run {
-    pub value: u64,
-    pub next: usize,
-}
-
-// A number that stands at a position, and the position past the byte that ends it.
+// What was read at a position: its value, and the position past it, or past the byte that ends it.
 #[derive(Clone, Copy, Debug, PartialEq, Eq)]
-pub struct Number {
-    pub value: i64,
+pub struct Found<T> {
+    pub value: T,
     pub next: usize,
 }
 
@@ -31,7 +24,7 @@ pub fn digit(b: u8) -> Option<u64>
 }
 
 // The digits from a position on, ten at the most.
-fn digits(s: &[u8], at: usize) -> Run
+fn digits(s: &[u8], at: usize) -> Found<u64>
     requires { at ≤ length s.now }
     ensures { result ≡ run 0 at (drop at s.now) }
 {
@@ -40,20 +33,20 @@ fn digits(s: &[u8], at: usize) -> Run
         match digit(*b) {
             Some(d) if value < 1000000000 => value = value * 10 + d,
             _ => {
-                return Run {
+                return Found {
                     value,
                     next: at + i,
                 };
             }
         }
     }
-    Run {
+    Found {
         value,
         next: s.len(),
     }
 }
 
-// A magnitude with its sign.
+// A magnitude with its sign. The sign is a flag, here and below: it is known before the digits, and decides whether a 0 may stand alone.
 fn signed(minus: bool, v: u64) -> i64
     requires { v < 10000000000 }
     ensures { result ≡ signed_of minus v }
@@ -61,7 +54,7 @@ fn signed(minus: bool, v: u64) -> i64
     if minus { -(v as i64) } else { v as i64 }
 }
 
-// The byte at a position, or 0 past the end.
+// The byte at a position, or 0 past the end. No `Option`: no field holds a 0, and what reading means says it so.
 pub fn byte(s: &[u8], i: usize) -> u8
     ensures { result ≡ get_or s.now i 0 }
 {
@@ -70,7 +63,7 @@ pub fn byte(s: &[u8], i: usize) -> u8
 
 // A number without its minus, from q on, ended by the byte t.
 #[tactic(auto, unfolding(crate::specs::Number::judged, crate::specs::Number::after_sign))]
-fn after_sign(s: &[u8], minus: bool, q: usize, t: u8) -> Option<Number>
+fn after_sign(s: &[u8], minus: bool, q: usize, t: u8) -> Option<Found<i64>>
     requires { q ≤ length s.now }
     ensures { field result ≡ after_sign s.now minus q t }
 {
@@ -79,7 +72,7 @@ fn after_sign(s: &[u8], minus: bool, q: usize, t: u8) -> Option<Number>
     if run.next <= q || byte(s, run.next) != t || has_needless_zero {
         return None;
     }
-    Some(Number {
+    Some(Found {
         value: signed(minus, run.value),
         next: run.next + 1,
     })
@@ -87,7 +80,7 @@ fn after_sign(s: &[u8], minus: bool, q: usize, t: u8) -> Option<Number>
 
 // The number field at a position, ended by the byte t.
 #[tactic(auto, using(crate::proofs::Digits::inside), unfolding(crate::specs::Number::field_at))]
-pub fn field_at(s: &[u8], at: usize, t: u8) -> Option<Number>
+pub fn field_at(s: &[u8], at: usize, t: u8) -> Option<Found<i64>>
     requires { at ≤ length s.now }
     ensures { field result ≡ field_at s.now at t }
 {
@@ -98,7 +91,7 @@ pub fn field_at(s: &[u8], at: usize, t: u8) -> Option<Number>
     }
 }
 
-// Writes v in decimal from a position on, k digits at the most, and returns the position behind them.
+// Writes v in decimal from a position on, k digits at the most, and returns the position behind them. Digit by digit: `write!` has no such limit.
 fn put_digits(out: &mut [u8], at: usize, v: u64, k: usize) -> usize
     requires { at + length (decimal k v) ≤ length out.old }
     ensures { Wrote out.old out.new at result (decimal k v) }
@@ -148,7 +141,7 @@ pub fn put_count(out: &mut [u8], at: usize, n: u64) -> usize
 }
 
 // Writes a number and the byte t behind it.
-pub fn put_field(out: &mut [u8], at: usize, v: i64, t: u8) -> usize
+pub(crate) fn put_field(out: &mut [u8], at: usize, v: i64, t: u8) -> usize
     requires { at + length (numeral v ++ (t ∷ [])) ≤ length out.old }
     ensures { Wrote out.old out.new at result (numeral v ++ (t ∷ [])) }
 {

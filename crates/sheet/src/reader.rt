@@ -1,42 +1,31 @@
 // A sheet, read line by line into a schedule. The bytes stand with a position, and not as what is left of them: specs/Reading.antt says by positions what reading means.
-ghost use Rattle.std.specs.Prelude.{◌≡◌, ℕ, ◌+◌, ◌≤◌, ◌<◌, ◌^◌, length};
-ghost use Rattle.sheet.specs.Reading.{read_as, read_line, read_lines, read_sheet, answer};
-ghost use Rattle.sheet.specs.Results.{line_part, part, read_answer};
+ghost use Rattle.std.specs.Prelude.{◌≡◌, ◌+◌, ◌≤◌, ◌<◌, ◌^◌, length};
+ghost use Rattle.sheet.specs.Reading.{read_line, read_lines, read_sheet, answer};
+ghost use Rattle.sheet.specs.Results.{part, read_answer};
 
-use crate::{Cause, Line, Refused, Schedule, fields, tests};
+use crate::{Cause, Refused, Schedule, ensure, fields, tests};
 
-// A line at a position: a line of names stands there byte for byte, one of numbers has its layout first, then its meaning, then its place.
-fn read_as(s: &[u8], at: usize, l: Line, c: &mut Schedule) -> Result<usize, Cause>
-    requires { at ≤ length s.now }
-    ensures { (n : ℕ) → line_part n c.new result ≡ read_as l n c.old s.now at }
-{
-    let k = l.width();
-    if k == 0 {
-        let names = l.names();
-        return if s[at..].starts_with(names) {
-            Ok(at + names.len())
-        } else {
-            Err(Cause::LineBroken)
-        };
-    }
-    let Some(f) = fields::fields_at(s, at, k) else {
-        return Err(Cause::LineBroken);
-    };
-    tests::test_line(l, f.values)?;
-    c.store(l, f.values);
-    Ok(f.next)
-}
-
-// Text line n, from 1, at a position; answers where the next line starts.
+// Text line n, from 1, at a position: a line of names stands there byte for byte, one of numbers has its layout first, then its meaning, then its place.
+// Answers where the next line starts.
 fn read_line(s: &[u8], at: usize, n: usize, c: &mut Schedule) -> Result<usize, Refused>
     requires { at ≤ length s.now }
     ensures { part c.new result ≡ read_line n c.old s.now at }
 {
     let l = c.line_at(n);
-    read_as(s, at, l, c).map_err(|cause| Refused { cause, place: n })
+    if let Some(names) = l.names() {
+        ensure(s[at..].starts_with(names), Cause::LineBroken, n)?;
+        return Ok(at + names.len());
+    }
+    let f = fields::fields_at(s, at, l.width()).ok_or(Refused {
+        cause: Cause::LineBroken,
+        place: n,
+    })?;
+    tests::test_line(l, f.value, n)?;
+    c.store(l, f.value);
+    Ok(f.next)
 }
 
-// So many text lines from line `first` on.
+// So many text lines from line `first` on. A line and a count, as the definition has them: over a range the clause would speak of a difference.
 fn read_lines(
     s: &[u8],
     at: usize,
@@ -55,18 +44,13 @@ fn read_lines(
 }
 
 // The whole sheet, and nothing behind it.
-pub fn read_sheet(s: &[u8]) -> Result<Schedule, Refused>
+pub(crate) fn read_sheet(s: &[u8]) -> Result<Schedule, Refused>
     ensures { read_answer result ≡ answer (read_sheet s.now) }
 {
     let mut c = crate::zero_schedule();
     let at = read_lines(s, 0, 1, 2, &mut c)?;
     let left = c.lines_left();
     let end = read_lines(s, at, 3, left, &mut c)?;
-    if end != s.len() {
-        return Err(Refused {
-            cause: Cause::LineBroken,
-            place: left + 3,
-        });
-    }
+    ensure(end == s.len(), Cause::LineBroken, left + 3)?;
     Ok(c)
 }

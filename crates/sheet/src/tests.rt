@@ -1,28 +1,28 @@
 // The tests 3, 4 and 5, of a line's numbers and of a schedule that is handed over.
 ghost use Rattle.std.specs.Prelude.{◌≡◌, ℕ, ◌+◌, ◌<◌, ◌^◌, true, false, OnOk, IfErr};
-ghost use Rattle.sheet.specs.Choice.{pick};
 ghost use Rattle.sheet.specs.Tests as Spec;
-ghost use Rattle.sheet.specs.Results.{fault_of, number};
+ghost use Rattle.sheet.specs.Results.{tested, fault_told};
 
 use crate::{
     Cause, END_LIMIT, End, LAST_BINARY, LAST_CODE, Line, MAX_INPUTS, MAX_STEPS, Refused, Schedule,
-    Step,
+    Step, ensure, natural,
 };
 
-// Whether z lies from a to b.
+// Whether z lies from a to b: a name for the library's method, since with three such tests in a row, written out, the proof of the counts stays open.
 fn between(a: i64, z: i64, b: i64) -> bool
     ensures { result ≡ Spec.between a z b }
 {
     (a..=b).contains(&z)
 }
 
+// Whether z lies within the limits of an end or a constant.
 fn within_limit(z: i64) -> bool
     ensures { result ≡ Spec.within_limit z }
 {
     between(-END_LIMIT, z, END_LIMIT)
 }
 
-// Whether counts stand within their limits.
+// Whether counts stand within their limits. Three numbers and no struct: they are fields of a schedule, and no other function takes all three.
 #[tactic(auto, unfolding(crate::specs::Tests::counts_pass))]
 fn counts_pass(inputs: i64, squares: i64, steps: i64) -> bool
     ensures { result ≡ Spec.counts_pass inputs squares steps }
@@ -55,21 +55,7 @@ impl End {
 fn names_row(earlier: usize, z: i64) -> bool
     ensures { result ≡ Spec.names_row earlier z }
 {
-    1 <= z && z as usize <= earlier
-}
-
-// Whether a row field is right: it names an earlier row if it is used, and is 0 otherwise.
-fn row_passes(used: bool, earlier: usize, z: i64) -> bool
-    ensures { result ≡ Spec.row_passes used earlier z }
-{
-    if used { names_row(earlier, z) } else { z == 0 }
-}
-
-// Whether a value field is right: a constant within the limits if it is used, and 0 otherwise.
-fn value_passes(used: bool, z: i64) -> bool
-    ensures { result ≡ Spec.value_passes used z }
-{
-    if used { within_limit(z) } else { z == 0 }
+    (1..=earlier).contains(&natural(z))
 }
 
 impl Step {
@@ -78,40 +64,45 @@ impl Step {
     pub(crate) fn passes(&self, earlier: usize) -> bool
         ensures { result ≡ Spec.step_passes earlier self.now.code self.now.first self.now.second self.now.value }
     {
-        let Step {
-            code,
-            first,
-            second,
-            value,
-        } = *self;
-        between(1, code, LAST_CODE)
-            && row_passes(2 <= code, earlier, first)
-            && row_passes(between(2, code, LAST_BINARY), earlier, second)
-            && value_passes(code <= 1, value)
+        match *self {
+            Step {
+                code: 1,
+                first: 0,
+                second: 0,
+                value,
+            } => within_limit(value),
+            Step {
+                code: 2..=LAST_BINARY,
+                first,
+                second,
+                value: 0,
+            } => names_row(earlier, first) && names_row(earlier, second),
+            Step {
+                code: 5..=LAST_CODE,
+                first,
+                second: 0,
+                value: 0,
+            } => names_row(earlier, first),
+            _ => false,
+        }
     }
 }
 
-// Tests the numbers of a line.
+// Tests the numbers of text line n.
 #[tactic(auto, unfolding(crate::specs::Tests::fault))]
-pub fn test_line(l: Line, v: [i64; 4]) -> Result<(), Cause>
-    ensures { fault_of result ≡ Spec.fault l v }
+pub(crate) fn test_line(l: Line, v: [i64; 4], n: usize) -> Result<(), Refused>
+    ensures { tested result ≡ fault_told (Spec.fault l v) n }
 {
     match l {
-        Line::CountLine => passes_or(counts_pass(v[0], v[1], v[2]), Cause::CountWrong),
-        Line::EndLine(_) => passes_or(End::from(v).passes(), Cause::EndWrong),
-        Line::StepLine(_, earlier) => passes_or(Step::from(v).passes(earlier), Cause::StepWrong),
-        _ => Ok(()),
+        Line::CountLine => ensure(counts_pass(v[0], v[1], v[2]), Cause::CountWrong, n),
+        Line::EndLine(_) => ensure(End::from(v).passes(), Cause::EndWrong, n),
+        Line::StepLine(_, earlier) => ensure(Step::from(v).passes(earlier), Cause::StepWrong, n),
+        Line::CountNames | Line::EndNames | Line::StepNames => Ok(()),
     }
-}
-
-fn passes_or(passes: bool, cause: Cause) -> Result<(), Cause>
-    ensures { fault_of result ≡ pick passes 0 (number cause) }
-{
-    if passes { Ok(()) } else { Err(cause) }
 }
 
 // Tests a block of so many lines, from text line `first` on: the first that does not pass is refused for the cause.
-pub fn test_block<F: Fn(usize) -> bool>(
+pub(crate) fn test_block<F: Fn(usize) -> bool>(
     first: usize,
     count: usize,
     cause: Cause,
@@ -122,13 +113,9 @@ pub fn test_block<F: Fn(usize) -> bool>(
     ensures none_fails { OnOk result ((i : ℕ) → i < count → F.post passes i true) }
     ensures first_fails { IfErr result (λ r. (i : ℕ) × (i < count) × (r ≡ record { cause = cause; place = first + i }) × F.post passes i false × ((k : ℕ) → k < i → F.post passes k true)) }
 {
+    // a loop, proved by one line: tried with `try_for_each`, both clauses stay open
     for i in 0..count {
-        if !passes(i) {
-            return Err(Refused {
-                cause,
-                place: first + i,
-            });
-        }
+        ensure(passes(i), cause, first + i)?;
     }
     Ok(())
 }

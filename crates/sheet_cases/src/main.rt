@@ -4,6 +4,7 @@
 // each either the line `refused NUMBER PLACE`, or the line `accepted LENGTH` and the bytes of the written sheet. The checker makes both files.
 #![tactic(auto)]
 
+use sheet::{MAX_BYTES, Refused};
 use std::fs::File;
 use std::io;
 use std::io::Read;
@@ -26,12 +27,13 @@ fn next_byte(file: &mut impl Read) -> Option<u8> {
 // The length in front of a case.
 fn next_length(file: &mut impl Read) -> Option<usize> {
     let mut n: usize = 0;
+    // byte by byte: only its end tells how long a length is, and the bytes behind it are the case's
     for _ in 0..LENGTH_ROOM {
-        let Some(digit) = next_byte(file)?.checked_sub(b'0') else {
+        let Some(digit) = sheet::digit(next_byte(file)?) else {
             return Some(n);
         };
         if n < ROOM {
-            n = n * 10 + usize::from(digit);
+            n = n * 10 + digit as usize;
         }
     }
     Some(n)
@@ -47,28 +49,22 @@ fn next_case<'a>(file: &mut impl Read, room: &'a mut [u8]) -> Option<&'a [u8]> {
     }
 }
 
-// A refusal's line.
-fn print_refusal(rt: &impl Print, refused: sheet::Refused) -> io::Result<()> {
-    println!(rt; "refused {} {}", refused.cause.number(), refused.place)
-}
-
-// The schedule's sheet, written again.
-fn print_sheet(rt: &impl Print, schedule: sheet::Schedule) -> io::Result<()> {
-    let mut out = [0u8; sheet::MAX_BYTES];
-    match sheet::write(schedule, &mut out) {
-        Err(refused) => print_refusal(rt, refused),
-        Ok(n) => {
-            println!(rt; "accepted {n}")?;
-            rt.write_all(&out[..n])
-        }
-    }
+// The schedule of a sheet, written again into the first of the lent bytes.
+fn written<'a>(bytes: &[u8], room: &'a mut [u8]) -> Result<&'a [u8], Refused> {
+    let schedule = sheet::read(bytes)?;
+    let n = sheet::write(schedule, &mut *room)?;
+    Ok(&room[..n])
 }
 
 // What is printed for a case.
 fn print_case(rt: &impl Print, bytes: &[u8]) -> io::Result<()> {
-    match sheet::read(bytes) {
-        Err(refused) => print_refusal(rt, refused),
-        Ok(schedule) => print_sheet(rt, schedule),
+    let mut room = [0u8; MAX_BYTES];
+    match written(bytes, &mut room) {
+        Err(refused) => println!(rt; "refused {refused}"),
+        Ok(sheet) => {
+            println!(rt; "accepted {}", sheet.len())?;
+            rt.write_all(sheet)
+        }
     }
 }
 
@@ -84,6 +80,7 @@ fn print_cases(rt: &impl Print, file: &mut impl Read) -> io::Result<()> {
     Ok(())
 }
 
+// `main` of library_calls is alike, in another program: what both do is the library's `open`, and `fail` of streams.
 fn main(rt: HostRuntime) -> io::Result<()> {
     match File::open(&rt, "sheets") {
         Ok(mut file) => print_cases(&rt, &mut file),

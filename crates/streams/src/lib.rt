@@ -60,21 +60,19 @@ pub fn write_all<W: Write>(writer: &mut W, bytes: &[u8]) -> io::Result<()>
 // Writes a line to standard error: what failed, as the caller names it, a colon and the reason. Where that cannot be written nothing can be told.
 pub fn fail<P: Eprint>(rt: &P, what: &str, error: Error) {
     let mut room = [0u8; REASON_ROOM];
-    let length = put_error(error, &mut room);
-    if let Ok(text) = str::from_utf8(&room[..length]) {
+    if let Ok(text) = str::from_utf8(text_of(error, &mut room)) {
         let reason = without_number(text);
         let _ = eprintln!(rt; "{what}: {reason}");
     }
 }
 
-// Puts the error's text at the start of the buffer, as far as there is room: how many bytes it has there.
-fn put_error(error: Error, room: &mut [u8]) -> usize
-    ensures { result ≤ length room.new }
-{
+// The error's text, in the first of the lent bytes, as far as there is room.
+fn text_of<'a>(error: Error, room: &'a mut [u8]) -> &'a [u8] {
     let all = room.len();
     let mut rest: &mut [u8] = &mut *room;
     let _ = write!(rest, "{error}");
-    all.saturating_sub(rest.len())
+    let length = all.saturating_sub(rest.len());
+    &room[..length]
 }
 
 // A system error's text ends in its number, ` (os error 5)`.

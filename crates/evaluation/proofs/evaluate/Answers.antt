@@ -1,19 +1,20 @@
 -- `evaluate` ends as its definition does: the schedule's test, the length of either table, or the work.
 use mathlib.Core.Path.{◌≡◌, refl, sym, ap, ◌∙◌, subst}
 use mathlib.Core.List.{List, []}
-use Prim.Native.Nat.{ℕ, ◌-◌, ◌≤◌}
+use Prim.Native.Nat.{ℕ, ◌-◌, ◌*◌, ◌^◌, ◌<◌, ◌≤◌}
 use native.Mathlib.Omega.{arith}
 use lib.IntN.{ℤ}
 use Rattle.sheet.specs.Answers.{Refusal}
 use Rattle.sheet.specs.declared.Schedule.{Schedule}
 use Rattle.std.proofs.lemmas.Result.{err_from_is_err_and}
 use Rattle.sheet.specs.Results.{tested}
+use Rattle.sheet.specs.Writing.{test_of}
 use Rattle.sheet.proofs.Results.{number_some, ok_zero, err_some}
 use Rattle.sheet.proofs.Passed.{passed}
-use Rattle.evaluation.specs.Table.{table_after, ranges_after}
-use Rattle.evaluation.specs.Work.{Worked, stopped, worked, row_count, evaluated, tables_hold}
+use Rattle.evaluation.specs.Table.{row_width, table_after, ranges_after}
+use Rattle.evaluation.specs.Work.{Worked, stopped, worked, row_count, evaluated}
 use Rattle.evaluation.specs.Ranges.{answered_ranges}
-use Rattle.evaluation.proofs.EvaluationEnds.{nothing_put, nothing_told, ends_tested, ends_full, ends_worked, both_hold}
+use Rattle.evaluation.proofs.EvaluationEnds.{nothing_put, nothing_told, ends_tested, ends_full, ends_full_ranges, ends_worked}
 use Rattle.evaluation.proofs.RowLines.{rows_few}
 use Rattle.evaluation.proofs.WorkLaws.{Done, all_done, stopped_at}
 use Rattle.evaluation.proofs.Narrowed.{own_put, narrowed_left}
@@ -48,25 +49,41 @@ returns-in_err-test c =
     let u = untouched a.schedule a.table.now a.ranges.now (ends_tested a.schedule a.table.now a.ranges.now (err_some c.in_err-test.field-0.0 e)) in
     record { answer = rw (p.1, p.2) (e ∙ u.0); left = u.1.0; told = u.1.1 }
 
-pub tables_hold-requires : goal.tables_hold-requires
-tables_hold-requires c = omega (arith, c.row_count-rows.ensures, rows_few c.args.schedule (passed c.args.schedule (ok_zero c.in_ok-test.ensures)))
+-- numbers for all rows are few
+few_numbers : (s : Schedule) {n : ℕ} → (test_of s).number ≡ 0 → n ≡ row_count s → row_width * n < 2 ^ 64
+few_numbers s e q = omega (arith, q, rows_few s (passed s e))
 
--- either table is too short
-pub returns-then-not-tables_hold : goal.returns-then-not-tables_hold
-returns-then-not-tables_hold c =
+pub test_room-requires : goal.test_room-requires
+test_room-requires c = few_numbers c.args.schedule (ok_zero c.in_ok-test.ensures) c.row_count-rows.ensures
+
+pub test_room-requires-2 : goal.test_room-requires-2
+test_room-requires-2 c = let e = few_numbers c.args.schedule (ok_zero c.in_ok-test.ensures) c.row_count-rows.ensures in omega (arith, e)
+
+pub returns-in_err-test_room : goal.returns-in_err-test_room
+returns-in_err-test_room c =
     let a = c.args in
     let s = a.schedule in
-    let full = ap (λ n. tables_hold n a.table.now a.ranges.now) (sym c.row_count-rows.ensures) ∙ sym c.tables_hold.ensures ∙ c.if-not-tables_hold.true in
-    let u = untouched s a.table.now a.ranges.now (ends_full s a.table.now a.ranges.now (ok_zero c.in_ok-test.ensures) full) in
-    record { answer = u.0; left = u.1.0; told = u.1.1 }
+    let q = c.from_residual-in_err-test_room in
+    let p = err_from_is_err_and q.result q.ensures.1 in
+    let e = rw c.row_count-rows.ensures at c.in_err-test_room.ensures.answer in
+    let u = untouched s a.table.now a.ranges.now (ends_full s a.table.now a.ranges.now (ok_zero c.in_ok-test.ensures) c.in_err-test_room.field-0.0 e) in
+    record { answer = rw (p.1, p.2) u.0; left = u.1.0; told = u.1.1 }
+
+pub returns-in_err-test_room-2 : goal.returns-in_err-test_room-2
+returns-in_err-test_room-2 c =
+    let a = c.args in
+    let s = a.schedule in
+    let q = c.from_residual-in_err-test_room-2 in
+    let p = err_from_is_err_and q.result q.ensures.1 in
+    let e = rw c.row_count-rows.ensures at c.in_err-test_room-2.ensures.answer in
+    let room = rw c.row_count-rows.ensures at c.in_ok-test_room.ensures.room in
+    let u = untouched s a.table.now a.ranges.now (ends_full_ranges s a.table.now a.ranges.now (ok_zero c.in_ok-test.ensures) room c.in_err-test_room-2.field-0.0 e) in
+    record { answer = rw (p.1, p.2) u.0; left = u.1.0; told = u.1.1 }
 
 pub work_rows-done-requires-clause-passed : goal.work_rows-done-requires-clause-passed
 work_rows-done-requires-clause-passed c =
     let s = c.args.schedule in
     (passed s (ok_zero c.in_ok-test.ensures), c.row_count-rows.ensures)
-
-pub work_rows-done-requires-clause-rows_in_bounds : goal.work_rows-done-requires-clause-rows_in_bounds
-work_rows-done-requires-clause-rows_in_bounds c = both_hold c.row_count-rows.result c.args.table.now c.args.ranges.now (sym c.tables_hold.ensures ∙ c.if-not-tables_hold.false)
 
 pub overflow_sub-worked : goal.overflow_sub-worked
 overflow_sub-worked c =
@@ -83,8 +100,7 @@ narrow-requires c =
       | in-Ok w ↦ worked_all s n _ w.in-Ok.ensures.answer refl w.worked-is
       | in-Err w ↦ subst (Done s n) (sym w.worked-is) (stopped_work s n w.in-Err.ensures.answer (number_some w.in-Err.refused.cause)).1
     ] in
-    let room = both_hold n c.args.table.now c.args.ranges.now (sym c.tables_hold.ensures ∙ c.if-not-tables_hold.false) in
-    let o = own_put pass (omega (arith, c.row_count-rows.ensures)) done c.args.ranges.now room.1 c.work_rows-done.ensures.own in
+    let o = own_put pass (omega (arith, c.row_count-rows.ensures)) done c.args.ranges.now c.in_ok-test_room-2.ensures.room c.work_rows-done.ensures.own in
     record { passed = (o.pass, o.begun.few, done.none_refused); rows_in_bounds = (o.room, o.own) }
 
 pub returns : goal.returns
@@ -105,15 +121,14 @@ returns c =
       | in-Ok w ↦ ap tested w.done-is ∙ e.answer
       | in-Err w ↦ ap tested w.done-is ∙ w.in-Err.ensures.answer
     ] in
-    let holds = sym c.tables_hold.ensures ∙ c.if-not-tables_hold.false in
-    let room = both_hold n a.table.now a.ranges.now holds in
-    let rooms = both_hold (row_count s) a.table.now a.ranges.now (ap (λ m. tables_hold m a.table.now a.ranges.now) (sym count) ∙ holds) in
+    let room = rw count at c.in_ok-test_room.ensures.room in
+    let room_ranges = rw count at c.in_ok-test_room-2.ensures.room in
     let q : worked s n ≡ evaluated s a.table.now a.ranges.now =
-    ap (worked s) count ∙ sym (ends_worked s a.table.now a.ranges.now tested_zero rooms.0 rooms.1) in
+    ap (worked s) count ∙ sym (ends_worked s a.table.now a.ranges.now tested_zero room room_ranges) in
     record {
       answer = told ∙ ap (λ v. v.refusal) q;
       left = e.left ∙ ap (λ v. table_after v.rows a.table.now) q;
       told = c.narrow.ensures
-          ∙ narrowed_left (passed s tested_zero) (omega (arith, count)) done a.ranges.now room.1 e.own
+          ∙ narrowed_left (passed s tested_zero) (omega (arith, count)) done a.ranges.now c.in_ok-test_room-2.ensures.room e.own
           ∙ ap (λ v. ranges_after (answered_ranges s v.rows) a.ranges.now) q;
     }

@@ -7,14 +7,15 @@ use borrow.Author.Rules.{rules}
 use Rattle.listing.specs.Listed.{text_room}
 use Rattle.sheet.specs.Results.{write_answer}
 use Rattle.formula.specs.declared.TheConstants.{FORMULA_ROOM}
-use Rattle.formula.proofs.Printing.{refusal_shown, sheet_shown, length_told}
+use Rattle.listing.proofs.TextCases.{length_told}
+use Rattle.formula.proofs.Printing.{refusal_shown, sheet_shown}
 use Rattle.formula.proofs.put_text.Goals as goal
 
 pub returns-in-Err : goal.returns-in-Err
 returns-in-Err c =
     let fits : text_room ≤ length c.args.text.now = search rules in
     refusal_shown c.args.block FORMULA_ROOM c.args.taken.now c.args.text.now c.put_refusal.new.text (omega arith) c.put_refusal.auto.text fits
-    c.in-Err.refused c.put_refusal.result c.in-Err.ensures c.put_refusal.ensures
+    c.in-Err.refused c.put_refusal.result c.in-Err.ensures (rw c.number.ensures at c.put_refusal.ensures)
 
 pub returns-in-Ok : goal.returns-in-Ok
 returns-in-Ok c =

@@ -1,5 +1,5 @@
 -- The listing of the tables that the evaluation left, or its refusal.
-use mathlib.Core.Path.{◌≡◌, refl, sym, ap, ◌∙◌}
+use mathlib.Core.Path.{◌≡◌}
 use mathlib.Core.List.{List}
 use Prim.Native.Nat.{ℕ}
 use lib.IntN.{ℤ}
@@ -45,4 +45,4 @@ pub returns-in-Err-clause-wrote : goal.returns-in-Err-clause-wrote
 returns-in-Err-clause-wrote c =
     let a = c.args in
     let e = c.in-Err.ensures.answer in
-    rw (schedule_refused a.schedule a.table.now a.ranges.now (err_some c.in-Err.refused e)) (rw e at c.put_refusal.ensures)
+    rw (schedule_refused a.schedule a.table.now a.ranges.now (err_some c.in-Err.refused e)) (rw e at (rw c.number.ensures at c.put_refusal.ensures))

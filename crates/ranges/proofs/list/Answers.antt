@@ -1,31 +1,23 @@
 -- `list` meets its contract: the tables are long enough, the text has room, and what was read says all of the input.
-use mathlib.Core.Path.{◌≡◌, refl, sym, ap, ◌∙◌}
+use mathlib.Core.Path.{◌≡◌, sym, ap, ◌∙◌}
 use mathlib.Core.List.{List}
 use Prim.Native.Nat.{ℕ, ◌≤◌}
 use native.Mathlib.Omega.{arith}
 use lib.IntN.{pos}
-use lib.ListN.{length, take, replicate}
+use lib.ListN.{length, replicate}
 use borrow.Author.Rules.{rules}
-use Rattle.std.specs.Prelude.{Result, Ok, Err}
-use Rattle.std.specs.Result.{result_unwrap_or}
 use Rattle.sheet.specs.Results.{write_answer}
-use Rattle.sheet.specs.declared.causes.Refused.{Refused}
 use Rattle.listing.specs.Listing.{table_numbers, ranges_numbers, text_of, printed}
 use Rattle.listing.specs.Listed.{text_room}
 use Rattle.listing.proofs.BeginningTells.{beginning_tells}
-use Rattle.listing.proofs.TextCases.{listed_wrote}
+use Rattle.listing.proofs.TextCases.{length_told, listed_wrote}
 use Rattle.listing.proofs.TextFits.{text_fits}
 use Rattle.ranges.specs.declared.TheConstants.{SHEET_ROOM}
 use Rattle.ranges.proofs.list.Goals as goal
 
-length_told : (answer : Result ℕ Refused) → result_unwrap_or answer 0 ≡ (write_answer answer).length
-length_told (Ok n) = refl
-length_told (Err r) = refl
-
 pub returns : goal.returns
 returns c =
-    let read = take c.args.n c.args.sheet.now in
-    let long : length c.args.sheet.now ≡ SHEET_ROOM = search rules in
+    let read = c.args.read.now in
     let table = replicate table_numbers (pos 0) in
     let ranges = replicate ranges_numbers (pos 0) in
     let room : text_room ≤ length c.args.text.now = search rules in
@@ -36,6 +28,6 @@ returns c =
       prints =
           λ input e.
           let q : text_of read table ranges ≡ printed input =
-          ap (λ (l : List ℕ). text_of l table ranges) (sym e) ∙ beginning_tells (length c.args.sheet.now) (omega arith) input table ranges in
+          ap (λ (l : List ℕ). text_of l table ranges) (sym e) ∙ beginning_tells SHEET_ROOM (omega arith) input table ranges in
           rw (end_is, sym q) w;
     }

@@ -1,8 +1,11 @@
 -- the test, the sheet aside, and its copy where there is room
-use Rattle.std.proofs.Common.{sym, replicate, arith}
+use Rattle.std.proofs.Common.{sym, replicate, leb, length, arith}
+use Rattle.std.proofs.lemmas.Bool.{leb-true, leb-false}
 use lib.Seq.{length-take-le}
 use Rattle.std.proofs.lemmas.Result.{err_from_is_err_and}
 use Rattle.sheet.specs.Writing.{sheet_text}
+use Rattle.sheet.specs.declared.causes.Cause.TheVariants.{RoomTooShort}
+use Rattle.sheet.proofs.Results.{ensured, not_ensured}
 use Rattle.sheet.proofs.SheetTold.{passes, not_passed, not_room, written}
 use Rattle.sheet.proofs.Passed.{passed, lines_left_small}
 use Rattle.sheet.proofs.SheetLength.{sheet_short}
@@ -31,12 +34,16 @@ put_lines-n-requires c =
     let n = c.lines_left.ensures in
     (rw n (sheet_short s z), omega (arith, lines_left_small s (passed s z).counts, n))
 
-pub returns-then-out-n : goal.returns-then-out-n
+pub returns-in_err-ensure : goal.returns-in_err-ensure
 unfolding sheet_text
-returns-then-out-n c =
+returns-in_err-ensure c =
     let s = c.args.schedule in
+    let r = c.in_err-ensure.field-0.0 in
     let f = rw c.lines_left.ensures at c.put_lines-n.ensures in
-    not_room s c.args.out.now c.in_ok-test.ensures (omega (arith, f.ends))
+    let l = not_ensured (leb c.put_lines-n.result (length c.args.out.now)) r RoomTooShort 0 c.in_err-ensure.ensures in
+    let q = c.from_residual-in_err-ensure in
+    let p = err_from_is_err_and q.result q.ensures.1 in
+    rw (p.1, p.2, l.1) (not_room s c.args.out.now c.in_ok-test.ensures (omega (arith, f.ends, leb-false c.put_lines-n.result (length c.args.out.now) l.0)))
 
 pub slice_bounds-sheet-end : goal.slice_bounds-sheet-end
 unfolding sheet_text
@@ -58,4 +65,4 @@ returns c =
     let s = c.args.schedule in
     let e = c.in_ok-test.ensures in
     let f = rw c.lines_left.ensures at c.put_lines-n.ensures in
-    written s c.args.out.now e c.put_lines-n.result (replicate 1024 0) c.put_lines-n.new.out c.put_bytes.new.out f (sheet_short s (passes s c.args.out.now e)) c.if-out-n.false c.put_bytes.ensures.is
+    written s c.args.out.now e c.put_lines-n.result (replicate 1024 0) c.put_lines-n.new.out c.put_bytes.new.out f (sheet_short s (passes s c.args.out.now e)) (leb-true c.put_lines-n.result (length c.args.out.now) (ensured (leb c.put_lines-n.result (length c.args.out.now)) RoomTooShort 0 c.in_ok-ensure.ensures)) c.put_bytes.ensures.is

@@ -1,53 +1,61 @@
--- `by_index::put_column` meets its contract: each turn puts the number of one pair of the column.
-use Rattle.std.proofs.Common.{◌≡◌, ◌≤◌, ◌∙◌, sym, refl, arith}
-use Rattle.std.proofs.lemmas.List.{length-set, get_or-set_other}
-use Rattle.integer.proofs.Machine.{back}
-use Rattle.affine.specs.Limits.{paired}
-use Rattle.affine.specs.PairOrder.{first_of}
-use Rattle.affine.proofs.Columns.{at_first, at_next, at_symbols, index_alone}
-use Rattle.affine.proofs.PairOrder.{first_le_second}
-use Rattle.affine.proofs.Put.{put_given}
+-- `by_index::put_column` meets its contract: each turn puts the number of one pair of the column, and adds what it leaves.
+use Rattle.std.proofs.Common.{◌≡◌, ◌+◌, ◌∙◌, ◌<◌, ◌≤◌, sym, rules, arith, ap, to_z, of_z, w64}
+use Rattle.integer.specs.Sum.{sum_abs}
+use Rattle.affine.proofs.Columns.{at_first, at_next, at_symbols, column_none, column_more, column_sum_more, column_all, column_sum_within}
 use Rattle.affine.proofs.by_index.put_column.Goals as goal
 
 pub loop-i-init : goal.loop-i-init
-loop-i-init g c = record { here = at_first c.args.j; long = c.requires.column.1; given = λ k h. absurd (omega (arith, h.2)); others = λ k h. refl }
+loop-i-init g c =
+    let (column, (callable, (given, (before, small)))) = c.requires.1 in
+    let j = c.args.j in
+    record {
+      here = at_first j;
+      put = before.0 ∙ column_none g.parting.number j;
+      summed = before.1 ∙ ap sum_abs (column_none g.parting.remainder j);
+    }
 
-pub f-requires : goal.f-requires
-f-requires g c =
-    let s = at_symbols c.requires.column.0 (omega (arith, c.loop-i-test.true)) c.loop-i.invariant.here in
-    rw (sym s.1) (c.requires.callable c.loop-i.k s.0 s.2)
+pub invariant_of-f : goal.invariant_of-f
+invariant_of-f g c =
+    let s = at_symbols c.requires.1.0 (omega (arith, c.loop-i-test.true)) c.loop-i.invariant.here in
+    record { inside = s.0; first_told = sym s.1; second_told = sym s.2 }
 
-pub offset_bounds-out-k : goal.offset_bounds-out-k
-offset_bounds-out-k g c =
-    let s = at_symbols c.requires.column.0 (omega (arith, c.loop-i-test.true)) c.loop-i.invariant.here in
-    record { fits = omega (arith, s.0) }
-
-pub bounds-out-k : goal.bounds-out-k
-bounds-out-k g c = (at_symbols c.requires.column.0 (omega (arith, c.loop-i-test.true)) c.loop-i.invariant.here).0
-
-pub overflow_add-k : goal.overflow_add-k
-overflow_add-k g c =
-    let s = at_symbols c.requires.column.0 (omega (arith, c.loop-i-test.true)) c.loop-i.invariant.here in
-    record { fits = omega (arith, s.0) }
+pub overflow_add-rests : goal.overflow_add-rests
+overflow_add-rests g c =
+    let (column, (callable, (given, (before, small)))) = c.requires.1 in
+    let r = g.parting.remainder in
+    let i = c.loop-i.i in
+    let j = c.args.j in
+    let here = c.loop-i.invariant.here in
+    let l : i ≤ j = omega (arith, c.loop-i-test.true) in
+    let part = given _ c.f-part.result (omega arith) c.f-part.ensures in
+    record {
+      fits = omega (
+        arith,
+        c.loop-i.invariant.summed,
+        part.1,
+        column_sum_more r column l here,
+        column_sum_within r j (i + 1) (omega (arith, l)),
+        small,
+      );
+    }
 
 pub loop-i-preserved : goal.loop-i-preserved
 loop-i-preserved g c =
-    let v = c.loop-i.invariant in
+    let (column, (callable, (given, (before, small)))) = c.requires.1 in
+    let here = c.loop-i.invariant.here in
     let l : c.loop-i.i ≤ c.args.j = omega (arith, c.loop-i-test.true) in
-    let s = at_symbols c.requires.column.0 l v.here in
+    let part = given _ c.f-part.result (omega arith) c.f-part.ensures in
+    let fits : to_z w64 (of_z w64 c.f-part.result.number) ≡ c.f-part.result.number = search rules in
     record {
-      here = at_next c.requires.column.0 l v.here;
-      long = length-set c.loop-i.out c.loop-i.k _ ∙ v.long;
-      given = rw (back c.f.type_inv) (put_given (λ k z. goal.F-post g c.args.f (first_of k) c.args.j k z) c.loop-i.out c.loop-i.k c.f.result
-          (omega (arith, v.long, s.0)) v.given
-          (λ k d h. (h.0, h.1, omega (arith, h.2, λ (e : first_of k ≡ c.loop-i.i). d (index_alone c.requires.column.0 l v.here h.0 e h.1))))
-          (rw s.1 c.f.ensures));
-      others = λ k h. get_or-set_other c.loop-i.out c.loop-i.k k _ _ (λ e. h (rw e s.2)) ∙ v.others k h;
+      here = at_next column l here;
+      put = rw (fits, part.0, c.loop-i.invariant.put) (column_more g.parting.number column l here);
+      summed = omega (arith, c.loop-i.invariant.summed, part.1, column_sum_more g.parting.remainder column l here);
     }
 
-pub returns-clause-given : goal.returns-clause-given
-returns-clause-given g c k h e =
-    c.loop-i.invariant.given k (h, e, omega (arith, first_le_second paired k h, e, c.loop-i-test.false))
-
-pub returns-clause-others : goal.returns-clause-others
-returns-clause-others g c = c.loop-i.invariant.others
+pub returns : goal.returns
+returns g c =
+    let v = c.loop-i.invariant in
+    let over : c.args.j < c.loop-i.i = omega (arith, c.loop-i-test.false) in (
+      v.put ∙ column_all g.parting.number v.here over,
+      v.summed ∙ ap sum_abs (column_all g.parting.remainder v.here over),
+    )

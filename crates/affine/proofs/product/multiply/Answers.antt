@@ -1,9 +1,51 @@
 -- `multiply` meets its contract: its own coefficient covers the dropped part and all remainders, and nothing wraps.
-use Rattle.std.proofs.Common.{rules, arith, ap, ◌∙◌}
+use Rattle.std.proofs.Common.{rules, arith, ap, ◌∙◌, ◌≡◌, ◌≤◌, ◌<◌, ◌^◌, ℕ, to_z, of_z, w64}
+use Rattle.integer.specs.Sum.{sum_abs}
+use Rattle.affine.specs.Limits.{symbols}
+use Rattle.affine.specs.Lists.{tabulate}
+use Rattle.affine.specs.PairOrder.{over_used}
+use lib.IntN.{◌*ℤ◌}
+use Rattle.integer.proofs.Machine.{operation_fits}
+use Rattle.affine.specs.declared.Row.{Row}
 use Rattle.affine.specs.Steps.{checked}
+use Rattle.affine.specs.Product.{linear_total, pair_total}
 use Rattle.affine.proofs.RowSize.{radius_told}
+use Rattle.affine.proofs.RowRead.{centre_fits}
+use Rattle.affine.proofs.Magnitude.{centre_product_fits}
+use Rattle.affine.proofs.Totals.{linear_total_none}
+use Rattle.affine.proofs.Parted.{divided, divided_none, remainders_small, remainders_small_used}
 use Rattle.affine.proofs.ProductRow.{error_small, row_small, row_is}
 use Rattle.affine.proofs.product.multiply.Goals as goal
+
+pub overflow_mul-a : goal.overflow_mul-a
+overflow_mul-a c =
+    let x = c.args.x in
+    let y = c.args.y in
+    operation_fits ◌*ℤ◌ (centre_fits x.row x.within) (centre_fits y.row y.within) (centre_product_fits x.row y.row x.within y.within)
+
+pub put_front-linear-requires : goal.put_front-linear-requires
+put_front-linear-requires c =
+    let x = c.args.x in
+    let y = c.args.y in
+    let s = c.args.symbols in
+    let hx = x.within in
+    let hy = y.within in
+    let zeros = ap (λ (r : Row). r.linear) c.constant_row-row.ensures in
+    let own : s.own ≤ symbols = omega (arith, s.owned) in
+    let small : sum_abs (tabulate symbols (divided (linear_total x.row y.row)).remainder) < 2 ^ 64 = omega (arith, remainders_small (linear_total x.row y.row)) in
+    let none = (λ (i : ℕ) (h : s.own ≤ i). divided_none (linear_total_none x.row y.row s.own c.requires.0 c.requires.1 i h)) in
+    λ k w. (search rules, (search (rules, w), (omega arith, (own, (zeros, (search rules, (λ i p h e. search rules, (λ i h l. none i h, small))))))))
+
+pub put_pairs_in_use-pair-requires : goal.put_pairs_in_use-pair-requires
+put_pairs_in_use-pair-requires c =
+    let x = c.args.x in
+    let y = c.args.y in
+    let s = c.args.symbols in
+    let hx = x.within in
+    let hy = y.within in
+    let zeros = ap (λ (r : Row). r.pair) c.constant_row-row.ensures in
+    let small : sum_abs (over_used s.squares (divided (pair_total x.row y.row)).remainder) < 2 ^ 64 = omega (arith, remainders_small_used (pair_total x.row y.row) s.squares) in
+    λ k w. (search (rules, w), (s.few, (zeros, (λ p h. search rules, (λ p q h e. search rules, small)))))
 
 pub dropped_part-dropped-requires-clause-a_len : goal.dropped_part-dropped-requires-clause-a_len
 dropped_part-dropped-requires-clause-a_len c =
@@ -19,25 +61,33 @@ dropped_part-dropped-requires-clause-b_len c =
 
 pub overflow_add-error : goal.overflow_add-error
 overflow_add-error c =
-    let x = c.args.x in
-    let y = c.args.y in
-    let s = c.args.symbols in
-    record { fits = omega (arith, error_small s.squares s.own x.row y.row x.within y.within x.summed y.summed c.totals-row.ensures c.dropped_part-dropped.ensures c.divide_row.ensures.remainders) }
+    let small = error_small c.args.x c.args.y c.args.symbols c.divided-centre.result c.dropped_part-dropped.ensures c.divided-centre.ensures.remainder c.put_front-linear.ensures.rests c.put_pairs_in_use-pair.ensures.rests in
+    record { fits = omega (arith, small) }
+
+pub overflow_add-error-2 : goal.overflow_add-error-2
+overflow_add-error-2 c =
+    let small = error_small c.args.x c.args.y c.args.symbols c.divided-centre.result c.dropped_part-dropped.ensures c.divided-centre.ensures.remainder c.put_front-linear.ensures.rests c.put_pairs_in_use-pair.ensures.rests in
+    record { fits = omega (arith, small) }
+
+pub overflow_add-error-3 : goal.overflow_add-error-3
+overflow_add-error-3 c =
+    let small = error_small c.args.x c.args.y c.args.symbols c.divided-centre.result c.dropped_part-dropped.ensures c.divided-centre.ensures.remainder c.put_front-linear.ensures.rests c.put_pairs_in_use-pair.ensures.rests in
+    record { fits = omega (arith, small) }
 
 pub check_with_own-requires : goal.check_with_own-requires
 check_with_own-requires c =
-    let x = c.args.x in
-    let y = c.args.y in
-    let s = c.args.symbols in (
-      s.owned,
-      row_small s.squares s.own x.row y.row x.within y.within x.summed y.summed c.totals-row.ensures c.dropped_part-dropped.ensures c.divide_row.ensures.remainders c.divide_row.ensures.quotients c.ceiling_quotient.ensures,
+    let fits : to_z w64 (of_z w64 c.divided-centre.result.number) ≡ c.divided-centre.result.number = search rules in
+    let centre = ap (λ (r : Row). r.centre) c.constant_row-row.ensures ∙ fits in (
+      c.args.symbols.owned,
+      row_small c.args.x c.args.y c.args.symbols c.divided-centre.result c.dropped_part-dropped.ensures c.divided-centre.ensures.remainder c.put_front-linear.ensures.rests c.put_pairs_in_use-pair.ensures.rests
+          centre c.divided-centre.ensures.quotient c.put_front-linear.ensures.numbers c.put_pairs_in_use-pair.ensures.numbers c.ceiling_quotient.ensures,
     )
 
 pub returns : goal.returns
 returns c =
-    let x = c.args.x in
-    let y = c.args.y in
-    let s = c.args.symbols in
+    let fits : to_z w64 (of_z w64 c.divided-centre.result.number) ≡ c.divided-centre.result.number = search rules in
+    let centre = ap (λ (r : Row). r.centre) c.constant_row-row.ensures ∙ fits in
     c.check_with_own.ensures
     ∙ ap checked
-    (row_is s.squares s.own x.row y.row x.within y.within x.summed y.summed c.totals-row.ensures c.dropped_part-dropped.ensures c.divide_row.ensures.remainders c.divide_row.ensures.quotients c.ceiling_quotient.ensures)
+    (row_is c.args.x c.args.y c.args.symbols c.divided-centre.result c.dropped_part-dropped.ensures c.divided-centre.ensures.remainder c.put_front-linear.ensures.rests c.put_pairs_in_use-pair.ensures.rests
+    centre c.divided-centre.ensures.quotient c.put_front-linear.ensures.numbers c.put_pairs_in_use-pair.ensures.numbers c.ceiling_quotient.ensures)

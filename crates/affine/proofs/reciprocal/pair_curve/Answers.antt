@@ -12,26 +12,26 @@ use Rattle.affine.proofs.reciprocal.pair_curve.Goals as goal
 
 pub meeting_at-requires-clause-i_lt_symbols : goal.meeting_at-requires-clause-i_lt_symbols
 meeting_at-requires-clause-i_lt_symbols c =
-    let (few, first, second, same) = c.requires.k_lt_pairs in
-    (omega (arith, first, first_below c.args.k), omega (arith, second, second_below c.args.k))
+    let p = c.args.p in
+    (omega (arith, p.first_told, first_below p.index), omega (arith, p.second_told, second_below p.index))
 
 pub meeting_at-requires-clause-by_index : goal.meeting_at-requires-clause-by_index
 meeting_at-requires-clause-by_index c =
     let x = c.args.x.now in
     let (within, some, outweighs) = c.requires.outweighs in
-    (λ n. rw c.requires.k_lt_pairs.3 (omega (arith, candidate_linear_within x some outweighs n)), linear_at_within x within)
+    (λ n. rw c.requires.candidate (omega (arith, candidate_linear_within x some outweighs n)), linear_at_within x within)
 
 met_is : (c : goal.After-meeting_at)
     → let x = c.args.x.now in
-    to_z w64 (of_z w64 c.meeting_at.result) ≡ meeting (candidate_linear x) x.linear (first_of c.args.k) (second_of c.args.k)
+    to_z w64 (of_z w64 c.meeting_at.result) ≡ meeting (candidate_linear x) x.linear (first_of c.args.p.index) (second_of c.args.p.index)
 met_is c =
-    let (few, first, second, same) = c.requires.k_lt_pairs in
-    rw (first, second, ← same) (back c.meeting_at.type_inv ∙ c.meeting_at.ensures)
+    let p = c.args.p in
+    rw (← p.first_told, ← p.second_told, ← c.requires.candidate) (back c.meeting_at.type_inv ∙ c.meeting_at.ensures)
 
 pub candidate_curve-requires : goal.candidate_curve-requires
 candidate_curve-requires c =
     let x = c.args.x.now in
-    let k = c.args.k in
+    let k = c.args.p.index in
     let (within, some, outweighs) = c.requires.outweighs in
     rw (read_centre x within, read_pair x within k, met_is c)
     (centre_within x within, pair_at_within x within k, some, candidate_meeting_within x some outweighs within (first_of k) (second_of k))

@@ -1,10 +1,11 @@
 -- `reciprocal_apart` meets its contract: the candidate's span is tested first, and then bounds what the own coefficient covers.
-use Rattle.std.proofs.Common.{arith, refl, ap, ap₂, ◌≡◌, ◌∙◌, ◌+◌, ◌^◌, ◌≤◌, ◌<◌, ℕ, pos}
+use Rattle.std.proofs.Common.{rules, Some, arith, refl, ap, ap₂, ◌≡◌, ◌∙◌, ◌+◌, ◌^◌, ◌≤◌, ◌<◌, ℕ, pos}
 use Rattle.integer.specs.Floor.{ceiling_quotient}
 use Rattle.integer.proofs.Floor.{ceiling_at_most}
 use Rattle.affine.specs.declared.Row.{Row}
 use Rattle.affine.specs.Limits.{span_limit}
 use Rattle.affine.specs.Row.{span}
+use Rattle.affine.specs.Measured.{measured}
 use Rattle.affine.specs.Steps.{with_own, checked}
 use Rattle.affine.specs.Reciprocal.{candidate, error_bound, reciprocal_own, reciprocal_row}
 use Rattle.affine.proofs.MeasuredRow.{measured_radius, measured_inside, measured_within}
@@ -38,22 +39,25 @@ error_bound-bound-requires-clause-none c =
 
 pub error_bound-bound-requires-clause-within : goal.error_bound-bound-requires-clause-within
 error_bound-bound-requires-clause-within c =
-    (measured_within c.candidate-z.result c.in-Some.ensures, measured_radius c.candidate-z.result c.in-Some.ensures)
+    let told : Some c.in_ok-size.size ≡ measured c.candidate-z.result = search rules in
+    (measured_within c.candidate-z.result told, measured_radius c.candidate-z.result told)
 
 pub check_with_own-requires : goal.check_with_own-requires
 check_with_own-requires c =
     let x = c.args.x.now in
-    let y = c.args.symbols in (
+    let y = c.args.symbols in
+    let told : Some c.in_ok-size.size ≡ measured c.candidate-z.result = search rules in (
       y.owned,
       own_small y.squares y.own x.row c.args.distance c.candidate-z.ensures refl c.error_bound-bound.ensures c.ceiling_quotient.ensures x.within
-          (measured_within c.candidate-z.result c.in-Some.ensures) c.requires.none.1,
+          (measured_within c.candidate-z.result told) c.requires.none.1,
     )
 
 pub returns : goal.returns
 returns c =
     let x = c.args.x.now.row in
     let y = c.args.symbols in
-    let inside = (rw c.candidate-z.ensures at (measured_inside c.candidate-z.result c.in-Some.ensures)) in
+    let told : Some c.in_ok-size.size ≡ measured c.candidate-z.result = search rules in
+    let inside = (rw c.candidate-z.ensures at (measured_inside c.candidate-z.result told)) in
     rw inside
     (c.check_with_own.ensures
     ∙ ap checked (row_is y.squares y.own x c.args.distance c.candidate-z.ensures refl c.error_bound-bound.ensures c.ceiling_quotient.ensures))

@@ -1,5 +1,5 @@
 -- `root_from` meets its contract: the candidate's span is tested, then its range, and then what the own coefficient covers is bounded.
-use Rattle.std.proofs.Common.{rules, arith, refl, ap, ap₂, sym, ◌≡◌, ◌∙◌, ◌+◌, ◌^◌, ◌≤◌, ◌<◌, ◌≤ℤ◌, ℕ, ℤ, pos, to_z, of_z, w64}
+use Rattle.std.proofs.Common.{rules, Some, arith, refl, ap, ap₂, sym, ◌≡◌, ◌∙◌, ◌+◌, ◌^◌, ◌≤◌, ◌<◌, ◌≤ℤ◌, ℕ, ℤ, pos, to_z, of_z, w64}
 use mir.ValLaws.{to_z-of_z}
 use lib.Signed.{lt_z}
 use Rattle.integer.specs.Floor.{ceiling_quotient}
@@ -9,6 +9,7 @@ use Rattle.affine.specs.declared.Row.{Row}
 use Rattle.affine.specs.declared.Range.{Range}
 use Rattle.affine.specs.Limits.{span_limit}
 use Rattle.affine.specs.Row.{span, low, form_range}
+use Rattle.affine.specs.Measured.{measured}
 use Rattle.affine.specs.Steps.{with_own, checked}
 use Rattle.affine.specs.Root.{unit_root, root_candidate, square_error, root_own, root_row, starts_below_zero}
 use Rattle.affine.proofs.MeasuredRow.{measured_radius, measured_range, measured_inside, measured_within}
@@ -31,10 +32,10 @@ low_is x m range em er e = ap (λ z. lt_z z (pos 0)) (e ∙ ap (λ (r : Range). 
 pub returns-then-size-lt0 : goal.returns-then-size-lt0
 returns-then-size-lt0 c =
     let m = c.root_candidate-z.result in
-    let e = c.in-Some.ensures in
+    let e : Some c.in_ok-size.size ≡ measured c.root_candidate-z.result = search rules in
     let inside = (rw c.root_candidate-z.ensures at (measured_inside m e)) in
-    let read : to_z w64 (of_z w64 c.in-Some.size.range.low) ≡ c.in-Some.size.range.low = search rules in
-    let below = sym (low_is c.args.x.now m c.in-Some.size.range c.root_candidate-z.ensures (measured_range m e) read) ∙ c.if-size-lt0.true in
+    let read : to_z w64 (of_z w64 c.in_ok-size.size.range.low) ≡ c.in_ok-size.size.range.low = search rules in
+    let below = sym (low_is c.args.x.now m c.in_ok-size.size.range c.root_candidate-z.ensures (measured_range m e) read) ∙ c.if-size-lt0.true in
     rw (inside, below) refl
 
 -- ---- the candidate z that was made, the bound n, the divisor d and the quotient q
@@ -59,7 +60,7 @@ square_error-bound-requires-clause-none c =
 pub square_error-bound-requires-clause-within : goal.square_error-bound-requires-clause-within
 square_error-bound-requires-clause-within c =
     let m = c.root_candidate-z.result in
-    let e = c.in-Some.ensures in
+    let e : Some c.in_ok-size.size ≡ measured c.root_candidate-z.result = search rules in
     (c.requires.none.1, measured_within m e, measured_radius m e)
 
 -- ---- what it is divided by
@@ -68,16 +69,16 @@ unit_root-requires c =
     let some = c.requires.least.0 in
     rw (to_z-of_z w64 c.args.least c.ranges.least) (some, least_within some c.requires.least.1 (centre_within c.args.x.now c.requires.none.1))
 
-pub ceiling_quotient-requires : goal.ceiling_quotient-requires
-ceiling_quotient-requires c = rw (c.unit_root.ensures, to_z-of_z w64 c.args.least c.ranges.least) (unit_root_some c.requires.least.0)
+pub ceiling_quotient-own-requires : goal.ceiling_quotient-own-requires
+ceiling_quotient-own-requires c = rw (c.unit_root.ensures, to_z-of_z w64 c.args.least c.ranges.least) (unit_root_some c.requires.least.0)
 
-pub overflow_add-ceiling_quotient : goal.overflow_add-ceiling_quotient
-overflow_add-ceiling_quotient c =
+pub overflow_add-own : goal.overflow_add-own
+overflow_add-own c =
     let y = c.args.symbols in
     let m = c.root_candidate-z.result in
-    let e = c.in-Some.ensures in
+    let e : Some c.in_ok-size.size ≡ measured c.root_candidate-z.result = search rules in
     let d = (rw (to_z-of_z w64 c.args.least c.ranges.least) at c.unit_root.ensures) in
-    let small = own_small y.squares y.own c.args.x.now c.args.least c.root_candidate-z.ensures refl c.square_error-bound.ensures d c.ceiling_quotient.ensures
+    let small = own_small y.squares y.own c.args.x.now c.args.least c.root_candidate-z.ensures refl c.square_error-bound.ensures d c.ceiling_quotient-own.ensures
     c.requires.none.1 (measured_within m e) c.requires.least.0 in
     record { fits = omega (arith, small) }
 
@@ -85,10 +86,10 @@ pub check_with_own-requires : goal.check_with_own-requires
 check_with_own-requires c =
     let y = c.args.symbols in
     let m = c.root_candidate-z.result in
-    let e = c.in-Some.ensures in
+    let e : Some c.in_ok-size.size ≡ measured c.root_candidate-z.result = search rules in
     let d = (rw (to_z-of_z w64 c.args.least c.ranges.least) at c.unit_root.ensures) in (
       y.owned,
-      own_small y.squares y.own c.args.x.now c.args.least c.root_candidate-z.ensures refl c.square_error-bound.ensures d c.ceiling_quotient.ensures
+      own_small y.squares y.own c.args.x.now c.args.least c.root_candidate-z.ensures refl c.square_error-bound.ensures d c.ceiling_quotient-own.ensures
           c.requires.none.1 (measured_within m e) c.requires.least.0,
     )
 
@@ -96,11 +97,11 @@ pub returns : goal.returns
 returns c =
     let y = c.args.symbols in
     let m = c.root_candidate-z.result in
-    let e = c.in-Some.ensures in
+    let e : Some c.in_ok-size.size ≡ measured c.root_candidate-z.result = search rules in
     let inside = (rw c.root_candidate-z.ensures at (measured_inside m e)) in
-    let read : to_z w64 (of_z w64 c.in-Some.size.range.low) ≡ c.in-Some.size.range.low = search rules in
-    let not_below = sym (low_is c.args.x.now m c.in-Some.size.range c.root_candidate-z.ensures (measured_range m e) read) ∙ c.if-size-lt0.false in
+    let read : to_z w64 (of_z w64 c.in_ok-size.size.range.low) ≡ c.in_ok-size.size.range.low = search rules in
+    let not_below = sym (low_is c.args.x.now m c.in_ok-size.size.range c.root_candidate-z.ensures (measured_range m e) read) ∙ c.if-size-lt0.false in
     let d = (rw (to_z-of_z w64 c.args.least c.ranges.least) at c.unit_root.ensures) in
     rw (inside, not_below)
     (c.check_with_own.ensures
-    ∙ ap checked (row_is y.squares y.own c.args.x.now c.args.least c.root_candidate-z.ensures refl c.square_error-bound.ensures d c.ceiling_quotient.ensures))
+    ∙ ap checked (row_is y.squares y.own c.args.x.now c.args.least c.root_candidate-z.ensures refl c.square_error-bound.ensures d c.ceiling_quotient-own.ensures))

@@ -1,20 +1,15 @@
--- The answer from the start is the answer from the index on.
-use mathlib.Core.Path.{refl, sym, ap}
-use borrow.Author.Rules.{rules}
-use mir.Syntax.{w64}
-use mir.Val.{SFits, of_z}
-use Rattle.affine.specs.Lists.{at}
-use Rattle.affine.proofs.Comparison.{equal_of_bits, agreeing_more, agreeing_other, agreeing_all}
+-- `same_numbers` meets its contract: `all` tests the numbers of both lists in turn.
+use Rattle.std.proofs.Common.{rules, tests, ◌∙◌}
+use Rattle.std.specs.Ordering.{int_eq}
+use Rattle.std.proofs.lemmas.Iterator.{YieldsList-from_slice, YieldsList-from_zip}
+use Rattle.std.proofs.lemmas.Iterator.Consumers.{YieldsList-at}
+use Rattle.std.proofs.lemmas.Iterator.Search.{all_from_yields_List}
+use Rattle.affine.proofs.Comparison.{all_agree}
 use Rattle.affine.proofs.sums.same_numbers.Goals as goal
 
-pub returns-then-a-i : goal.returns-then-a-i
-returns-then-a-i c = sym (agreeing_other c.loop-i.invariant c.loop-i-test.true refl (sym c.requires) (λ e. c.if-a-i.true (ap (of_z w64) e)))
-
-pub loop-i-preserved : goal.loop-i-preserved
-loop-i-preserved c =
-    let v : SFits w64 (at c.args.a.now c.loop-i.i) = search rules in
-    let w : SFits w64 (at c.args.b.now c.loop-i.i) = search rules in
-    agreeing_more c.loop-i.invariant c.loop-i-test.true refl (sym c.requires) (equal_of_bits v.sfits w.sfits c.if-a-i.false)
-
 pub returns : goal.returns
-returns c = sym (agreeing_all c.loop-i.invariant c.loop-i-test.false refl (sym c.requires))
+returns c =
+    all_from_yields_List (λ p. int_eq p.0 p.1) c.all.new.self _ _ c.all.ensures.ran
+    (YieldsList-from_zip (YieldsList-at c.zip.ensures.first (YieldsList-from_slice c.args.a.now cc)) (YieldsList-from_slice c.args.b.now c.zip.ensures.second.0))
+    (λ x b q k. search (rules, tests))
+    ∙ all_agree c.args.a.now c.args.b.now c.requires

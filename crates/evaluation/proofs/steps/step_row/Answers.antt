@@ -1,5 +1,6 @@
 -- Each operation's answer is what the definition makes of the step by its code, from the rows and ranges read.
-use mathlib.Core.Path.{sym, subst}
+use mathlib.Core.Path.{◌≡◌, sym, subst}
+use Prim.Native.Nat.{ℕ}
 use native.Mathlib.Omega.{arith}
 use borrow.Author.Rules.{rules}
 use mir.Syntax.{w64}
@@ -9,6 +10,10 @@ use Rattle.evaluation.specs.Table.{RowsWithin, RangesOf, Operands}
 use Rattle.evaluation.specs.Work.{binary_answer, unary_answer}
 use Rattle.evaluation.proofs.StepAnswers.{read_span, read_none, read_centred, first_earlier, second_earlier, two_rows, only_earlier, one_row, no_row}
 use Rattle.evaluation.proofs.steps.step_row.Goals as goal
+
+-- what holds of as many rows as are before the step's holds up to its own symbol
+at_own : (P : ℕ → Type 0) {own count : ℕ} → own ≡ count → P count → P own
+at_own P e h = subst P (sym e) h
 
 pub returns-in-Constant : goal.returns-in-Constant
 returns-in-Constant c =
@@ -20,9 +25,8 @@ returns-in-Constant c =
 pub multiply-requires : goal.multiply-requires
 multiply-requires c =
     let e = c.args.earlier.now in
-    let own = c.requires.next in
     let h = c.in-Product.ensures in
-    let held : Operands e.table.now e.radii.now c.args.symbols.own = subst (Operands e.table.now e.radii.now) (sym own) e.summed in (
+    let held = at_own (Operands e.table.now e.radii.now) c.requires.next e.summed in (
       read_none held (first_earlier c.requires.step_passed h (omega arith) (omega arith)) c.operand.ensures,
       read_none held (second_earlier c.requires.step_passed h (omega arith) (omega arith)) c.operand-in-Product.ensures,
     )
@@ -55,10 +59,9 @@ returns-in-Difference c =
 pub invert-requires : goal.invert-requires
 invert-requires c =
     let e = c.args.earlier.now in
-    let own = c.requires.next in
     let h = c.in-Reciprocal.ensures in
-    let held : Operands e.table.now e.radii.now c.args.symbols.own = subst (Operands e.table.now e.radii.now) (sym own) e.summed in
-    let ranged : RangesOf e.table.now e.ranges.now c.args.symbols.own = subst (RangesOf e.table.now e.ranges.now) (sym own) e.ranged in
+    let held = at_own (Operands e.table.now e.radii.now) c.requires.next e.summed in
+    let ranged = at_own (RangesOf e.table.now e.ranges.now) c.requires.next e.ranged in
     let before = only_earlier c.requires.step_passed h (omega arith) in
     (read_none held before c.operand-in-Reciprocal.ensures, (read_centred ranged before c.operand-in-Reciprocal.ensures c.range.ensures).outweighs)
 
@@ -73,11 +76,10 @@ returns-in-Reciprocal c =
 pub take_root-requires : goal.take_root-requires
 take_root-requires c =
     let e = c.args.earlier.now in
-    let own = c.requires.next in
     let h = c.in-Root.ensures in
-    let within : RowsWithin e.table.now c.args.symbols.own = subst (RowsWithin e.table.now) (sym own) e.within in
-    let held : Operands e.table.now e.radii.now c.args.symbols.own = subst (Operands e.table.now e.radii.now) (sym own) e.summed in
-    let ranged : RangesOf e.table.now e.ranges.now c.args.symbols.own = subst (RangesOf e.table.now e.ranges.now) (sym own) e.ranged in
+    let within = at_own (RowsWithin e.table.now) c.requires.next e.within in
+    let held = at_own (Operands e.table.now e.radii.now) c.requires.next e.summed in
+    let ranged = at_own (RangesOf e.table.now e.ranges.now) c.requires.next e.ranged in
     let before = only_earlier c.requires.step_passed h (omega arith) in
     let x = c.row-in-Root.ensures in
     (read_span within before x, read_none held before x, (read_centred ranged before x c.range-in-Root.ensures).low_below)

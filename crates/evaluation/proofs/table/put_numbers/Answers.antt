@@ -5,7 +5,6 @@ use lib.ListN.{set}
 use native.Mathlib.Omega.{arith}
 use Prim.Native.Nat.{◌+◌}
 use Rattle.std.proofs.lemmas.List.Edits.{paste_more}
-use Rattle.integer.proofs.Machine.{back}
 use borrow.Author.Rules.{rules}
 use mir.Syntax.{w64}
 use mir.Val.{SFits}

@@ -3,4 +3,4 @@ use Rattle.evaluation.proofs.WorkedTable.{WorkedInto, RadiiOf}
 use Rattle.evaluation.proofs.work.work_rows.Given as goal
 
 abbrev pub invariant-loop-i : goal.invariant-loop-i
-invariant-loop-i l = WorkedInto l.c l.i l.fn.table l.table l.fn.ranges l.ranges × RadiiOf l.c l.i l.radii
+invariant-loop-i l = WorkedInto l.c l.i-counter l.fn.table l.table l.fn.ranges l.ranges × RadiiOf l.c l.i-counter l.radii

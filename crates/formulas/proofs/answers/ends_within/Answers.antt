@@ -12,5 +12,5 @@ use Rattle.formulas.proofs.answers.ends_within.Goals as goal
 pub returns : goal.returns
 returns c =
     let a = c.args in
-    ap (λ (l : List End). l ++ drop a.inputs (replicate max_inputs zero_end)) c.copy_from_slice.ensures.after
-    ∙ front_held max_inputs a.inputs a.block.ends zero_end c.requires (omega arith)
+    ap (λ (l : List End). l ++ drop a.steps.now.inputs (replicate max_inputs zero_end)) c.copy_from_slice.ensures.after
+    ∙ front_held max_inputs a.steps.now.inputs a.block.ends zero_end a.steps.now.few_inputs (omega arith)

@@ -72,7 +72,7 @@ pub operand-overflow_add-result-in-Letter : goal.operand-overflow_add-result-in-
 operand-overflow_add-result-in-Letter t c =
     let a = c.args in
     let f = letter_few a.steps.now.inputs _ _ (told a.text.now a.steps.now.inputs a.at c.byte.result c.in-Letter.ensures c.byte.ensures) in
-    let s = c.requires.few_inputs in
+    let s = c.args.steps.now.few_inputs in
     search rules
 
 pub operand-returns-then-depth-eq0 : goal.operand-returns-then-depth-eq0
@@ -88,7 +88,7 @@ operand-chain-requires t c =
     let a = c.args in
     let s = c.requires in
     let h = inside a.text.now a.steps.now.inputs a.at (told a.text.now a.steps.now.inputs a.at c.byte.result c.in-Opening.ensures c.byte.ensures) tt in
-    (omega (arith, c.if-depth-eq0.false), record { short = s.short; few_inputs = s.few_inputs; few_steps = omega (arith, s.few_steps); inside = omega (arith, h) })
+    (omega (arith, c.if-depth-eq0.false), record { short = s.short; few_steps = omega (arith, s.few_steps); inside = omega (arith, h) })
 
 pub operand-returns-in_err-inner-in-Opening : goal.operand-returns-in_err-inner-in-Opening
 operand-returns-in_err-inner-in-Opening t c =

@@ -1,23 +1,19 @@
 -- Five pieces one behind the other: the names, the number, a space, the place and the line's end.
-use mathlib.Core.Path.{◌≡◌, ◌∙◌}
-use mathlib.Core.List.{List, [], ◌∷◌, ◌++◌, append_assoc}
-use Prim.Native.Nat.{ℕ, ◌+◌, ◌≤◌}
+use mathlib.Core.List.{append_assoc}
 use native.Mathlib.Omega.{arith}
 use lib.IntN.{pos}
-use lib.ListN.{length}
-use Rattle.sheet.specs.Text.{numeral, line}
-use Rattle.sheet.specs.Wrote.{Wrote}
+use Rattle.sheet.specs.Text.{line}
 use Rattle.sheet.proofs.Decimal.{numeral_short}
 use Rattle.sheet.proofs.Written.{wrote_then}
-use Rattle.listing.specs.Listing.{refusal_names, refusal_text}
+use Rattle.listing.specs.Listing.{refusal_text}
 use Rattle.listing.proofs.texts.put_refusal.Goals as goal
 
 pub put_count-at-requires : goal.put_count-at-requires
-put_count-at-requires c = omega (arith, c.put_bytes-at.ensures.ends, c.put_bytes-at.auto.out, numeral_short (pos c.number.result), c.requires)
+put_count-at-requires c = omega (arith, c.put_bytes-at.ensures.ends, c.put_bytes-at.auto.out, numeral_short (pos c.args.number), c.requires)
 
 pub put_bytes-at-requires-2 : goal.put_bytes-at-requires-2
 put_bytes-at-requires-2 c =
-    omega (arith, c.put_bytes-at.ensures.ends, c.put_bytes-at.auto.out, c.put_count-at.ensures.ends, c.put_count-at.auto.out, numeral_short (pos c.number.result), c.requires)
+    omega (arith, c.put_bytes-at.ensures.ends, c.put_bytes-at.auto.out, c.put_count-at.ensures.ends, c.put_count-at.auto.out, numeral_short (pos c.args.number), c.requires)
 
 pub put_count-at-requires-2 : goal.put_count-at-requires-2
 put_count-at-requires-2 c =
@@ -29,8 +25,8 @@ put_count-at-requires-2 c =
       c.put_count-at.auto.out,
       c.put_bytes-at-2.ensures.ends,
       c.put_bytes-at-2.auto.out,
-      numeral_short (pos c.number.result),
-      numeral_short (pos c.args.refused.place),
+      numeral_short (pos c.args.number),
+      numeral_short (pos c.args.place),
       c.requires,
     )
 
@@ -46,14 +42,13 @@ put_bytes-requires c =
       c.put_bytes-at-2.auto.out,
       c.put_count-at-2.ensures.ends,
       c.put_count-at-2.auto.out,
-      numeral_short (pos c.number.result),
-      numeral_short (pos c.args.refused.place),
+      numeral_short (pos c.args.number),
+      numeral_short (pos c.args.place),
       c.requires,
     )
 
 pub returns : goal.returns
 unfolding refusal_text line
 returns c =
-    let number_put = rw c.number.ensures at c.put_count-at.ensures in
-    let w = wrote_then (wrote_then (wrote_then (wrote_then c.put_bytes-at.ensures number_put) c.put_bytes-at-2.ensures) c.put_count-at-2.ensures) c.put_bytes.ensures in
+    let w = wrote_then (wrote_then (wrote_then (wrote_then c.put_bytes-at.ensures c.put_count-at.ensures) c.put_bytes-at-2.ensures) c.put_count-at-2.ensures) c.put_bytes.ensures in
     simp append_assoc at w

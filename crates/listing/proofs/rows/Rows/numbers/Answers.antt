@@ -1,5 +1,5 @@
 -- The line's numbers, number by number from what the calls answer.
-use mathlib.Core.Path.{◌≡◌, sym, ap, ◌∙◌}
+use mathlib.Core.Path.{sym, ap, ◌∙◌}
 use mathlib.Core.List.{[], ◌∷◌}
 use Prim.Native.Nat.{◌-◌}
 use native.Mathlib.Omega.{arith}
@@ -10,8 +10,7 @@ use mir.Val.{SFits}
 use mir.ValLaws.{to_z-of_z}
 use Rattle.affine.specs.declared.Range.{Range}
 use Rattle.evaluation.specs.Answers.{RangeAnswer}
-use Rattle.listing.specs.Held.{RowHeld}
-use Rattle.listing.proofs.HeldRows.{row_range}
+use Rattle.listing.proofs.HeldRows.{row_held, row_range}
 use Rattle.listing.proofs.FirstSame.{first_small}
 use Rattle.listing.proofs.rows.Rows.numbers.Goals as goal
 
@@ -23,7 +22,7 @@ overflow_cast-result-2 c =
 pub returns : goal.returns
 returns c =
     let s = c.args.self.now in
-    let held : RowHeld s.table.now s.count c.args.row = record { rows = s.held; from_one = c.requires.0; up_to = c.requires.1 } in
+    let held = row_held s.held c.requires in
     let told = row_range held s.ordered in
     let low : SFits w64 c.get_range-range.result.low = search rules in
     let high : SFits w64 c.get_range-range.result.high = search rules in
