@@ -16,6 +16,7 @@ sys.path.insert(0, str(ROOT / "checker"))
 
 import formula_cases
 import formula_program
+import sheet
 
 HOW_TO_CALL = b"call: formula FORMULA SQUARES LOW HIGH LOW HIGH ..., as formula '(a+8192)*b' 2 -512 512 4096 8192\n"
 NO_NUMBERS = [b"", b"-", b"-0", b"01", b"+1", b" 1", b"1\n", b"a", b"12345678901", b"-12345678901", b"1" * 40]
@@ -38,9 +39,10 @@ def made():
 
 
 def inputs_and_wrong_calls():
-    """No inputs and more than six, low above high, and calls without squares, with half an input, with a word that is no number."""
-    for words in ([], [b"0", b"1"] * 6, [b"0", b"1"] * 7, [b"0", b"1"] * 100, [b"2", b"1"], [b"0", b"1", b"0", b"268435457"]):
-        for squares in (b"-1", b"0", b"1", b"6", b"7"):
+    """No inputs, as many as there may be and more, low above high, and calls without squares, with half an input, with a word that is no number."""
+    most, beyond = sheet.INPUTS_LIMIT, sheet.INPUTS_LIMIT + 1
+    for words in ([], [b"0", b"1"] * most, [b"0", b"1"] * beyond, [b"0", b"1"] * 100, [b"2", b"1"], [b"0", b"1", b"0", b"268435457"]):
+        for squares in (b"-1", b"0", b"1", b"%d" % most, b"%d" % beyond):
             yield [b"a+1", squares, *words]
             yield [b"a+1", squares, *words, b"0"]
     yield from ([], [b""], [b"a+1"])

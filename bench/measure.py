@@ -26,9 +26,11 @@ FORMULAS = pathlib.Path(__file__).resolve().parent / "formulas"
 FEW, MANY = 100, 400
 TIMED = 20_000
 RUNS = 15
-EVALUATED = ("multiply", "reciprocal", "reciprocals", "root", "roots", "add")
-LISTED = 3_000
-FORMULAS_READ = 1_000
+LISTING_RUNS = 3_000
+FORMULA_RUNS = 1_000
+EVALUATED = ("multiply", "reciprocal", "reciprocals", "root", "roots", "add", "largest")
+LISTED = ("multiply", "reciprocals", "roots", "add", "largest")
+READ = ("short", "long", "nested", "refused", "longest")
 
 
 class Run(NamedTuple):
@@ -141,17 +143,17 @@ def print_run_names(what: str) -> None:
 
 def measure_listing(ours: str, plain: str) -> None:
     print_run_names("listing")
-    for name in ("multiply", "reciprocals", "roots", "add"):
+    for name in LISTED:
         given = str(SHEETS / name)
-        measure_run(name, Run([ours], given, "main"), Run([plain], given, "plain_listing::main"), LISTED)
+        measure_run(name, Run([ours], given, "main"), Run([plain], given, "plain_listing::main"), LISTING_RUNS)
 
 
 def measure_formula(ours: str, plain: str) -> None:
     print_run_names("formula")
-    for name in ("short", "long", "nested", "refused"):
+    for name in READ:
         words = (FORMULAS / name).read_text().split()
         runs = Run([ours, *words], os.devnull, "main"), Run([plain, *words], os.devnull, "plain_formula::main")
-        measure_run(name, *runs, FORMULAS_READ)
+        measure_run(name, *runs, FORMULA_RUNS)
 
 
 def main() -> None:

@@ -3,7 +3,7 @@
     python3 bench/versions.py PROGRAM PROGRAM ..
 
 Each program reads and prints as `bench_evaluate` does, and all must print the same. A line for each sheet and program: instructions, the median time, and
-the ratios of both to those of the first program. How they are taken: `bench/measure.py`.
+the ratios of both to those of the first program. How they are taken: `bench/measure.py`. A sheet that a program refuses, as one beyond its limits, is left out.
 """
 
 import sys
@@ -18,8 +18,13 @@ def main() -> None:
     print(f"{'sheet':<14}{'instructions':>14}{'ratio':>8}{'us':>8}{'ratio':>8}  program")
     for name in measure.EVALUATED:
         sheet = (measure.SHEETS / name).read_bytes()
-        for program in programs:
-            measure.must_be_alike(name, *(measure.output([other], measure.counted(1, sheet)) for other in (programs[0], program)))
+        printed = [measure.output([program], measure.counted(1, sheet)) for program in programs]
+        refusing = [program for program, line in zip(programs, printed) if line.startswith(b"refused")]
+        if refusing:
+            print(f"{name:<14}refused by {' '.join(refusing)}")
+            continue
+        for line in printed:
+            measure.must_be_alike(name, printed[0], line)
         counts = [measure.evaluation_instructions(program, sheet) for program in programs]
         times = measure.evaluation_times(programs, sheet)
         for program, count, time in zip(programs, counts, times):

@@ -4,9 +4,9 @@
     python3 checker/bench_evaluate.py 100000 | target/bin/bench_evaluate        (a measurement)
 
 The program reads a line with a count N, of 1 to 8 digits and at most 10,000,000, and then a sheet.
-It evaluates the sheet N times into one table of 1,560 numbers and one table of ranges of 60, all
-zero at the start, and prints one line: N, then low and high of the last row; or `refused NUMBER
-PLACE` where the sheet is refused; or `no count` where the first line is none.
+It evaluates the sheet N times into one full table and one full table of ranges, all zero at the
+start, and prints one line: N, then low and high of the last row; or `refused NUMBER PLACE` where the
+sheet is refused; or `no count` where the first line is none.
 """
 
 import re
@@ -22,11 +22,11 @@ STORED_COUNT = 3
 
 
 def products() -> sheet.Schedule:
-    """24 products on 6 inputs and 6 squares, each of the row before it and an input; the ends lie
-    near 4096, so that every product is near 1 and accepted."""
-    inputs = 6
+    """As many products as a sheet may have, on as many inputs and squares, each of the row before
+    it and an input; the ends lie near 4096, so that every product is near 1 and accepted."""
+    inputs = sheet.INPUTS_LIMIT
     ends = [(4096 - 7 * i, 4096 + 11 * i) for i in range(1, inputs + 1)]
-    steps = [(sheet.MULTIPLY, inputs + k, k % inputs + 1, 0) for k in range(24)]
+    steps = [(sheet.MULTIPLY, inputs + k, k % inputs + 1, 0) for k in range(sheet.STEPS_LIMIT)]
     return sheet.schedule(inputs, ends, steps)
 
 

@@ -4,12 +4,13 @@ byte.
     python3 checker/compare.py target/bin/ranges
     python3 checker/compare.py target/bin/ranges --count 1000000      (a longer run)
     python3 checker/compare.py target/bin/ranges --seed 7 --count 100 (those sheets again)
+    python3 checker/compare.py target/bin/ranges --stored             (those with a stored listing alone)
 
-One process for each sheet: the samples of another implementation, whose listings are stored beside
-them, the sheets of a fixed seed, as many of a fresh seed, and one sheet with every byte at every
-place. Each sheet is a file on standard input, but one in 16 comes through a
-pipe, a few bytes at a time. A program that ends by a signal, with a status other than 0, or not
-within 10 seconds fails on that sheet. A mismatch prints the sheet; the last line is
+One process for each sheet: the samples of another implementation and the sheets of at most 6 inputs
+and 24 steps, whose listings are stored beside them, the sheets of a fixed seed, as many of a fresh
+seed, and one sheet with every byte at every place. Each sheet is a file on standard input, but one in
+16 comes through a pipe, a few bytes at a time. A program that ends by a signal, with a status other
+than 0, or not within 10 seconds fails on that sheet. A mismatch prints the sheet; the last line is
 `N passed, M failed`.
 """
 
@@ -42,7 +43,7 @@ class Name(NamedTuple):
     index: int
 
 
-SAMPLE, SWEEP, SEED = "sample", "sweep", "seed "
+SAMPLE, WITHIN, SWEEP, SEED = "sample", "within 6 inputs and 24 steps", "sweep", "seed "
 
 
 class Runner:
@@ -93,8 +94,8 @@ class Runner:
 
 def sheet_and_text(name: Name) -> tuple[bytes, bytes]:
     """The sheet of a name, and what must be printed for it."""
-    if name.origin == SAMPLE:
-        return sampled[name.index]
+    if name.origin in stored:
+        return stored[name.origin][name.index]
     if name.origin == SWEEP:
         data = swept[name.index]
     else:
@@ -112,10 +113,14 @@ def compare(name: Name):
     return name, data, status, printed, expected
 
 
+def stored_listings() -> dict[str, list[samples.Listing]]:
+    return {SAMPLE: samples.listings(), WITHIN: samples.listings_within_6_and_24()}
+
+
 def start_worker(program: str) -> None:
-    global runner, sampled, swept
+    global runner, stored, swept
     runner = Runner(program)
-    sampled = samples.listings()
+    stored = stored_listings()
     swept = generate.every_byte_at_every_place()
 
 
@@ -127,13 +132,20 @@ def show(name, data, status, printed, expected) -> None:
     print("---", flush=True)
 
 
+def stored_names() -> list[Name]:
+    counts = {origin: len(found) for origin, found in stored_listings().items()}
+    return [Name(origin, index) for origin, count in counts.items() for index in range(count)]
+
+
 def names_of(options) -> list[Name]:
     if options.seed is not None:
         indices = range(options.first, options.first + options.count)
         return [Name(SEED + options.seed, index) for index in indices]
+    if options.stored:
+        return stored_names()
     fresh = secrets.token_hex(4)
     print(f"seeds {FIXED_SEED} and {fresh}", flush=True)
-    names = [Name(SAMPLE, index) for index in range(len(samples.listings()))]
+    names = stored_names()
     names += [Name(SWEEP, index) for index in range(len(generate.every_byte_at_every_place()))]
     for seed in (FIXED_SEED, fresh):
         names += [Name(SEED + seed, index) for index in range(options.count)]
@@ -145,6 +157,7 @@ def main() -> int:
     parser.add_argument("program")
     parser.add_argument("--count", type=int, default=COUNT_OF_EACH_SEED, help="sheets of each seed")
     parser.add_argument("--seed", help="the sheets of this seed alone")
+    parser.add_argument("--stored", action="store_true", help="the stored listings alone")
     parser.add_argument("--first", type=int, default=0, help="with --seed: the first index")
     options = parser.parse_args()
     program = os.path.abspath(options.program)

@@ -20,13 +20,17 @@ from fractions import Fraction
 import demand3
 import generate
 import rows
+import sheet
 import spoilt
 
 KINDS = {
-    "20, each of the row before and one of 4 constants about 1": generate.constant_chain,
-    "24, each of the row before and one of 6 inputs about 1, whose ends are at most 9 units apart":
+    f"{sheet.STEPS_LIMIT - 4}, each of the row before and one of 4 constants about 1":
+        generate.constant_chain,
+    f"{sheet.STEPS_LIMIT}, each of the row before and one of {sheet.INPUTS_LIMIT} inputs about 1, "
+    "whose ends are at most 9 units apart":
         generate.narrow_chain,
-    "24, of any two rows, on inputs about 1 and -1, whose ends are at most 1,500 units apart":
+    f"{sheet.STEPS_LIMIT}, of any two rows, on inputs about 1 and -1, whose ends are at most 1,500 "
+    "units apart":
         generate.long_products,
 }
 COUNT = 1_000

@@ -1,9 +1,9 @@
 """Evaluation into two lent tables, and the calls that ask about rows of a table.
 
 The specification, causes 6 to 9 of "Causes and what follows" and 12 (manual, section 6), and the
-requests 2026-02, 2026-04 and 2026-06. A lent table is a Python list of numbers. The first holds the
-52 numbers of each row; the second, the table of ranges, holds two numbers a row: the low and the
-high that are answered.
+requests 2026-02, 2026-04, 2026-06 and 2026-07. A lent table is a Python list of numbers. The first
+holds the 85 numbers of each row; the second, the table of ranges, holds two numbers a row: the low
+and the high that are answered.
 
 A row has three ranges. Its own range is that of its form, or of an input its ends; a reciprocal
 takes its test and its distance from there, a root its test and its low. Its plain range is made
@@ -17,7 +17,8 @@ import intervals
 import rows
 import sheet
 
-ROWS_LIMIT = 30
+# "the row count given may reach 48"
+ROWS_LIMIT = rows.SYMBOLS
 RANGE_NUMBERS = 2
 
 
@@ -40,7 +41,7 @@ class SameAnswer(NamedTuple):
 
 
 class WorkedRow(NamedTuple):
-    """The 52 numbers of a row that came about, and its three ranges."""
+    """The numbers of a row that came about, and its three ranges."""
 
     numbers: list
     own_range: rows.Range
@@ -57,7 +58,7 @@ class Work(NamedTuple):
 
 
 def input_or_step_numbers(schedule, row: int, worked):
-    """The 52 numbers that a row becomes, from the rows worked before it: "Rows are numbered from 1:
+    """The numbers that a row becomes, from the rows worked before it: "Rows are numbered from 1:
     inputs first, then steps."."""
     inputs, squares, _ = schedule.counts
     if row <= inputs:
@@ -139,7 +140,7 @@ def work(schedule) -> Work:
 
 
 def too_short(table, ranges, count: int) -> bool:
-    """Whether a table does not hold 52 numbers, or the table of ranges two, for each row of the
+    """Whether a table does not hold 85 numbers, or the table of ranges two, for each row of the
     count: "It follows the first one's rules"."""
     return len(table) < rows.NUMBERS * count or len(ranges) < RANGE_NUMBERS * count
 
@@ -152,7 +153,7 @@ def store(worked, table: list, ranges: list) -> None:
 
 
 def evaluate(schedule, table: list, ranges: list) -> Answer:
-    """"Evaluation needs 52 numbers for each row and writes no others. After 6 or 7 the rows
+    """"Evaluation needs" 85 "numbers for each row and writes no others. After 6 or 7 the rows
     before the place are written."; of 12 "place and table as for 7"; "evaluation also fills a
     second lent table, two numbers a row, with the answered low and high"."""
     try:
@@ -167,7 +168,7 @@ def evaluate(schedule, table: list, ranges: list) -> Answer:
 
 
 def numbers_of(table, row: int):
-    """The 52 numbers that a table holds for a row."""
+    """The numbers that a table holds for a row."""
     return table[rows.NUMBERS * (row - 1) : rows.NUMBERS * row]
 
 
@@ -177,7 +178,7 @@ def ends_of(ranges, row: int) -> rows.Range:
 
 
 def wrong_rows(count: int, asked) -> bool:
-    """9: "a row asked for is 0 or above the count given, or the count is above 30"."""
+    """9: "a row asked for is 0 or above the count given, or the count is above" 48."""
     return count > ROWS_LIMIT or any(row == 0 or row > count for row in asked)
 
 
@@ -187,7 +188,7 @@ def over_the_span(table, row: int) -> bool:
 
 
 def asking_refusal(table, count: int, asked) -> Answer:
-    """"Asking about rows: 9, 8, 6, the lower row first; the table must hold 52 numbers for each
+    """"Asking about rows: 9, 8, 6, the lower row first; the table must hold" 85 "numbers for each
     row of the count given."."""
     if wrong_rows(count, asked):
         return Answer(9, 0)

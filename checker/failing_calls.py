@@ -32,11 +32,11 @@ import tempfile
 import listing
 
 ROOT = pathlib.Path(__file__).resolve().parent.parent
-# a listing with low ends below 0, one of 30 rows, a refusal of reading, one of evaluation, and a
+# a listing with low ends below 0, one of the most rows, a refusal of reading, one of evaluation, and a
 # sheet that does not fit the program's buffer
 SHEETS = (
     "examples/square.sheet",
-    "bench/sheets/multiply",
+    "bench/sheets/largest",
     "examples/broken_line.sheet",
     "examples/span_passed.sheet",
     "examples/over_1024_bytes.sheet",

@@ -15,7 +15,8 @@ LENGTH_LIMIT = 200
 NESTING_LIMIT = 16
 LITERAL_LIMIT = sheet.END_LIMIT
 
-LETTERS = b"abcdef"
+# "Formula letters run to h": one for each input.
+LETTERS = bytes(range(ord("a"), ord("a") + sheet.INPUTS_LIMIT))
 # "A literal is a sheet's number without minus, of any length."
 LITERAL = re.compile(rb"0|[1-9][0-9]*")
 SUM_SIGNS = (b"+", b"-")
@@ -26,7 +27,7 @@ INPUTS_LINE = sheet.COUNTS_LINE
 
 
 class Letter(NamedTuple):
-    """"Letters a to f are inputs 1 to 6."."""
+    """"Letters a to" h "are inputs 1 to" 8."""
 
     input: int
 
@@ -165,7 +166,7 @@ def test_inputs(inputs: int, squares: int, ends) -> None:
 
 
 def schedule_of(inputs: int, squares: int, ends, text: bytes) -> sheet.Schedule:
-    """"11: no step, or more than 24. Tested 10, 5, 11."; "for 11 it is 0"."""
+    """"11: no step, or more than" 40, "11 counts to 40". "Tested 10, 5, 11."; "for 11 it is 0"."""
     test_inputs(inputs, squares, ends)
     tree = tree_of(text, inputs)
     test_literals(tree)

@@ -7,6 +7,7 @@ What begins a formula: some continuation makes one. Its steps and its value: Pyt
 import ast
 import itertools
 import re
+import string
 from fractions import Fraction
 
 SIGN_CODES = {ast.Add: 2, ast.Sub: 3, ast.Mult: 4, ast.Div: 4}
@@ -19,7 +20,7 @@ def deepest(text: bytes) -> int:
 
 def flat_formula(inputs: int) -> bytes:
     """The regular expression of a formula without brackets."""
-    operand = rb"(?:[%s]|0|[1-9][0-9]*)" % b"abcdef"[:inputs]
+    operand = rb"(?:[a-%c]|0|[1-9][0-9]*)" % (ord("a") + inputs - 1)
     return operand + rb"(?:[-+*/]" + operand + rb")*"
 
 
@@ -75,4 +76,4 @@ def python_steps(text: bytes, inputs: int) -> list[tuple]:
 def python_value(text: bytes, inputs) -> Fraction:
     """The value of a formula as Python works it with fractions in place of its numbers."""
     fractions = re.sub(rb"[0-9]+", rb"Fraction(\g<0>, 4096)", text)
-    return eval(fractions, {"Fraction": Fraction}, dict(zip("abcdef", inputs)))
+    return eval(fractions, {"Fraction": Fraction}, dict(zip(string.ascii_lowercase, inputs)))

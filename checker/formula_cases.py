@@ -1,5 +1,6 @@
 """Formulas to read: the stored samples, valid, deep, long and damaged ones, and hostile inputs
-beside them. Each case is (inputs, squares, six ends, text); library_calls.py makes calls of them.
+beside them. Each case is (inputs, squares, as many ends as a schedule has, text); library_calls.py
+makes calls of them.
 """
 
 import itertools
@@ -14,7 +15,7 @@ LIMIT = formula.LITERAL_LIMIT
 SIGNS = b"+-*/"
 # The most bytes of a formula that is made here, but for one that is inserted.
 LONGEST = 600
-BYTES = b"abcdef" + SIGNS + b"()0123456789"
+BYTES = formula.LETTERS + SIGNS + b"()0123456789"
 
 # Also numbers that are small again where a sum wraps at 2^32, 2^63 or 2^64.
 LITERALS = [
@@ -23,6 +24,9 @@ LITERALS = [
     2**64 + LIMIT, 10**20, 2**128 + 7, 2**64 * 10**20 + 5,
 ]
 ENDS = [(4096, 8192), (-512, 512), (1, 3), (-LIMIT, LIMIT), (0, 0), (7, 4096)]
+ENDS = (ENDS * sheet.INPUTS_LIMIT)[: sheet.INPUTS_LIMIT]
+# The letters of the inputs, and the first one beyond them all.
+LETTERS = formula.LETTERS + bytes([formula.LETTERS[-1] + 1])
 
 
 def sample_cases():
@@ -71,8 +75,10 @@ def any_text(rng, inputs) -> bytes:
     """A formula over the inputs, now and then over one letter more."""
     letters = formula.LETTERS[:inputs]
     if rng.random() < 0.05:
-        letters = b"abcdefg"[: inputs + 1]
-    operands = rng.choice((1, 2, 3, 3, 4, 4, 5, 6, 7, 8, 9, 12, 13, 20, 25, 26, 60, 120))
+        letters = LETTERS[: inputs + 1]
+    most = sheet.STEPS_LIMIT
+    near_most = (most // 2, most // 2 + 1, most - 4, most + 1, most + 2)
+    operands = rng.choice((1, 2, 3, 3, 4, 4, 5, 6, 7, 8, 9, 12, 13, *near_most, 60, 120))
     return any_formula(rng, letters, operands, rng.choice((1, 3, 16)), rng.choice((0.05, 0.3, 0.6)))
 
 
@@ -111,9 +117,9 @@ def any_formulas(seed, blocks, texts):
 
 def short_formulas():
     """By hand: no step, one step, the rank of signs, each way to stop short or go wrong."""
-    for inputs in (1, 2, 3, 6):
+    for inputs in (1, 2, 3, sheet.INPUTS_LIMIT):
         yield from over(
-            inputs, b"", b"a", b"(a)", b"((a))", b"f", b"g", b"A", b"0", b"7", b"(7)", b"a+b",
+            inputs, b"", b"a", b"(a)", b"((a))", b"A", b"0", b"7", b"(7)", b"a+b",
             b"a-b-c", b"a-(b-c)", b"a/b/c", b"a/(b/c)", b"a-b+c", b"a*b/c", b"a/b*c", b"a+b*c",
             b"a*b+c", b"a-b/c", b"a/b-c", b"(a-b)*(b-a)", b"(a-b)/(b-a)", b"1/2", b"1-2-3", b"a/a",
             b"a+", b"a*", b"+a", b"-a", b"-1", b"*", b"a+-1", b"a--b", b"a//b", b"(", b")", b"()",
@@ -144,9 +150,26 @@ def deep_formulas():
         yield from over(2, *nested(levels))
 
 
+def letters_of_inputs():
+    """Each letter, by itself and within a formula, over each number of inputs: those of the inputs
+    are read, those beyond them are not, nor is the one behind the last of all."""
+    for inputs in range(1, sheet.INPUTS_LIMIT + 1):
+        for letter in LETTERS:
+            one = bytes([letter])
+            yield from over(inputs, one, one + b"*a", b"a/" + one, b"(1-" + one + b")*" + one)
+
+
+def all_letters():
+    """Every letter of the inputs once: one step fewer than there are letters."""
+    for sign in (b"+", b"-", b"*"):
+        for inputs in (sheet.INPUTS_LIMIT, sheet.INPUTS_LIMIT - 1):
+            yield from over(inputs, sign.join(bytes([letter]) for letter in formula.LETTERS))
+
+
 def counted_formulas():
-    """Formulas of so many steps: around 24, and very many."""
-    for count in (1, 2, 22, 23, 24, 25, 26, 40, 99):
+    """Formulas of so many steps: around the most, and very many."""
+    most = sheet.STEPS_LIMIT
+    for count in (1, 2, *range(most - 2, most + 3), 2 * most, 99):
         yield from over(1, b"a" + b"+a" * count, b"a" + b"/a" * (count // 2) + b"-a" * (count % 2))
         yield from over(2, b"1" + b"*b" * (count - 1), b"(b-" * min(count, 16) + b"a" + b")" * min(count, 16))
 
@@ -160,7 +183,7 @@ def literal_formulas():
         yield from over(1, literal, b"(" + literal + b")", b"a+" + literal, literal + b"*a")
         yield from over(1, literal + b"-" + literal, b"1/(2-" + literal + b")", literal + b"x")
     two = b"%d-%d" % (LIMIT + 1, LIMIT + 2)
-    yield from over(1, b"%d+" % LIMIT + two, two + b"+", b"a" + b"+a" * 30 + b"+" + two, b"a*01+" + two)
+    yield from over(1, b"%d+" % LIMIT + two, two + b"+", b"a" + b"+a" * (sheet.STEPS_LIMIT + 1) + b"+" + two, b"a*01+" + two)
 
 
 def of_length(length):
@@ -193,13 +216,14 @@ def each_byte():
 def hostile_inputs():
     """Counts of any value, ends of any value, with formulas that would be accepted or refused."""
     texts = (b"", b"a+1", b"a", b"b*2", b"?", b"268435457")
-    counts = [LEAST, -(2**32), -1, 0, 1, 2, 6, 7, 2**32 + 1, GREATEST]
+    limit = sheet.INPUTS_LIMIT
+    counts = [LEAST, -(2**32), -1, 0, 1, 2, limit, limit + 1, 2**32 + 1, GREATEST]
     for inputs, squares in itertools.product(counts, repeat=2):
         for text in texts[:2]:
             yield inputs, squares, ENDS, text
     values = [LEAST, -LIMIT - 1, -LIMIT, -1, 0, LIMIT, LIMIT + 1, 2**32, GREATEST]
     pairs = [pair for value in values for pair in ((value, 0), (0, value), (value, value))]
-    for number, end, inputs in itertools.product((0, 1, 2, 5), pairs, (1, 2, 6)):
+    for number, end, inputs in itertools.product((0, 1, 2, limit - 1), pairs, (1, 2, limit)):
         yield inputs, 1, ENDS[:number] + [end] + ENDS[number + 1 :], texts[1]
     for text in texts:
         for wrong in ([], [0], [1], [0, 1], [2]):
@@ -211,6 +235,8 @@ def hostile_inputs():
 def cases():
     yield from samples()
     yield from short_formulas()
+    yield from letters_of_inputs()
+    yield from all_letters()
     yield from deep_formulas()
     yield from counted_formulas()
     yield from literal_formulas()

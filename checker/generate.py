@@ -18,6 +18,11 @@ import sheet
 
 LIMIT = sheet.END_LIMIT
 
+# The limits of counts and rows, and one beyond each.
+ABOUT_LIMITS = [
+    limit + off for limit in (sheet.INPUTS_LIMIT, sheet.STEPS_LIMIT, rows.SYMBOLS) for off in (0, 1)
+]
+
 
 class Draft:
     """A schedule under construction, with its rows worked until the first refusal."""
@@ -242,7 +247,7 @@ def accepted(rng, steps=None, ends=any_ends) -> Draft:
 def late_refusal(rng) -> Draft:
     """A sheet with accepted rows and then steps of any kind, so that 6, 7 and 12 come at every
     row."""
-    draft = accepted(rng, rng.randint(1, 20))
+    draft = accepted(rng, rng.randint(1, sheet.STEPS_LIMIT - 4))
     for _ in range(rng.randint(1, sheet.STEPS_LIMIT - len(draft.steps))):
         any_step(rng, draft)
     return draft
@@ -316,14 +321,25 @@ def range_at_zero(rng) -> Draft:
     return then_anything(rng, draft)
 
 
+def above_zero(rng, draft, row) -> int:
+    """The row, or where it is worked and starts below 1 the row with a constant added, so that it
+    starts above 0."""
+    low = 1 if draft.refused else draft.rows[row - 1].own_range.low
+    if low >= 1:
+        return row
+    return draft.add(row, draft.constant(min(LIMIT, rng.randint(1, 2 * rows.UNIT) - low)))
+
+
 def mixed_pairs(rng) -> Draft:
-    """Reciprocals, roots and products of rows in which pairs of different symbols meet."""
+    """Reciprocals, roots and products of rows in which pairs of different symbols meet, of any sign."""
     inputs = rng.randint(2, sheet.INPUTS_LIMIT)
     draft = Draft(rng.randint(2, inputs), [near_one(rng) for _ in range(inputs)])
     total = draft.multiply(1, 2)
     for _ in range(rng.randint(0, 3)):
         product = draft.multiply(rng.randint(1, draft.last()), rng.randint(1, inputs))
         total = draft.step(rng.choice((2, 2, 3)), total, product)
+    if rng.random() < 0.6:
+        total = above_zero(rng, draft, total)
     draft.step(rng.choice((sheet.RECIPROCAL, sheet.ROOT)), total)
     return then_anything(rng, draft)
 
@@ -474,7 +490,7 @@ def cancellation(rng) -> Draft:
 
 
 def long_products(rng) -> Draft:
-    """24 multiplies on rows about one."""
+    """As many multiplies as a sheet has steps, on rows about one."""
     draft = any_draft(rng, near_one)
     while not draft.is_full():
         draft.multiply(rng.randint(1, draft.last()), rng.randint(1, draft.last()))
@@ -489,7 +505,7 @@ def about_one(rng) -> int:
 
 
 def constant_chain(rng) -> Draft:
-    """20 multiplies one after another, each by one of four constants about one."""
+    """Multiplies one after another, each by one of four constants about one, to the last step."""
     draft = Draft(0, [(0, 0)])
     constants = [draft.constant(about_one(rng)) for _ in range(4)]
     while not draft.is_full():
@@ -498,13 +514,29 @@ def constant_chain(rng) -> Draft:
 
 
 def narrow_chain(rng) -> Draft:
-    """24 multiplies one after another, each by one of six inputs about one, whose ends are near each
-    other."""
+    """Multiplies one after another, each by one of the most inputs about one, whose ends are near
+    each other, to the last step."""
     lows = [about_one(rng) for _ in range(sheet.INPUTS_LIMIT)]
     draft = Draft(rng.randint(0, sheet.INPUTS_LIMIT), [(low, low + rng.randint(0, 9)) for low in lows])
     while not draft.is_full():
         draft.multiply(draft.last(), rng.randint(1, sheet.INPUTS_LIMIT))
     return draft
+
+
+def last_pairs(rng) -> Draft:
+    """The most inputs, all about one, and most of them in pairs: products of the last ones with each
+    other and with any, their sums and differences, and then a reciprocal or a root, which a product
+    takes up again."""
+    inputs = sheet.INPUTS_LIMIT
+    draft = Draft(inputs - rng.choice((0, 0, 0, 1, 2)), [near_one(rng) for _ in range(inputs)])
+    total = draft.multiply(inputs - 1, inputs)
+    for _ in range(rng.randint(0, 4)):
+        product = draft.multiply(rng.randint(inputs - 1, inputs), rng.randint(1, draft.last()))
+        total = draft.step(rng.choice((2, 2, 3)), total, product)
+    total = above_zero(rng, draft, total)
+    made = draft.step(rng.choice((sheet.RECIPROCAL, sheet.ROOT)), total)
+    draft.multiply(made, rng.choice((made, inputs - 1, inputs)))
+    return then_anything(rng, draft)
 
 
 def at_halves(rng) -> Draft:
@@ -553,7 +585,7 @@ EXTREMES = [
     limit_ends, span_by_sums, span_by_product, range_at_zero, large_squares, mixed_pairs,
     reciprocal_chain, small_divisors, odd_ends, cancellation, long_products, large_roots,
     small_above_large, roots_of_squares, roots_of_low_ends, root_chain, at_halves,
-    constant_chain, narrow_chain, wide_inputs,
+    constant_chain, narrow_chain, wide_inputs, last_pairs,
 ]
 
 
@@ -565,8 +597,8 @@ def extreme(rng) -> Draft:
 
 HOSTILE_FIELDS = [
     b"", b"-", b"+1", b"-0", b"00", b"01", b"1.0", b"0", b"1", b"-1", b"2", b"5", b"6", b"7",
-    b"24", b"25", b"30", b"31", b"268435456", b"268435457", b"-268435456", b"-268435457",
-    b"2147483648", b"4294967296", b"4294967297", b"9999999999", b"-9999999999", b"10000000000",
+    *(b"%d" % limit for limit in ABOUT_LIMITS), b"268435456", b"268435457", b"-268435456",
+    b"-268435457", b"2147483648", b"4294967296", b"4294967297", b"9999999999", b"-9999999999", b"10000000000",
     b"18446744073709551616",
 ]
 
@@ -647,8 +679,8 @@ def damaged(rng) -> bytes:
 
 
 FAR_VALUES = [
-    -9_999_999_999, -LIMIT - 1, -LIMIT, -1, 0, 1, 2, 3, 4, 5, 6, 7, 8, 24, 25, 30, 31, LIMIT,
-    LIMIT + 1, 2**31, 2**32, 2**32 + 1, 9_999_999_999,
+    -9_999_999_999, -LIMIT - 1, -LIMIT, -1, *range(9), *ABOUT_LIMITS, LIMIT, LIMIT + 1, 2**31,
+    2**32, 2**32 + 1, 9_999_999_999,
 ]
 
 
@@ -665,9 +697,24 @@ def wrong_step(rng) -> bytes:
     return sheet.text(draft.schedule())
 
 
+def counts_about_limits(rng) -> bytes:
+    """A sheet in good layout with all lines that its counts ask for, each count at its limit, one
+    beyond it, or small: accepted, or cause 3."""
+    inputs, steps = (
+        rng.choice((1, 2, limit, limit, limit + 1))
+        for limit in (sheet.INPUTS_LIMIT, sheet.STEPS_LIMIT)
+    )
+    counts = sheet.Counts(inputs, rng.choice((0, inputs - 1, inputs, inputs, inputs + 1)), steps)
+    ends = [near_one(rng) for _ in range(inputs)]
+    step = rng.choice((sheet.ADD, sheet.MULTIPLY)), rng.randint(1, inputs), rng.randint(1, inputs), 0
+    return sheet.text(sheet.Schedule(counts, ends, [sheet.Step(*step)] * steps))
+
+
 def wrong_value(rng) -> bytes:
     """A sheet in good layout with one or two numbers replaced: causes 3, 4 and 5. At times one of
     their lines also breaks the layout: 2 comes first there."""
+    if rng.random() < 0.05:
+        return counts_about_limits(rng)
     if rng.random() < 0.4:
         return wrong_step(rng)
     data = sheet.text(accepted(rng, rng.randint(1, 6)).schedule())

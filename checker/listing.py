@@ -10,8 +10,9 @@ import evaluation
 import rows
 import sheet
 
-TABLE_LENGTH = 1_560
-RANGES_LENGTH = 60
+# "A full table is 4,080 numbers"
+TABLE_LENGTH = rows.NUMBERS * evaluation.ROWS_LIMIT
+RANGES_LENGTH = evaluation.RANGE_NUMBERS * evaluation.ROWS_LIMIT
 TEXT_ROOM = 4_096
 
 # "This one is (x + 1)² - 2x"; "and it prints"; "In the listing of 01 row 4 now starts at 3136".
@@ -47,7 +48,7 @@ def refusal_text(number: int, place: int) -> bytes:
 
 
 def first_same_row(table, row: int) -> int:
-    """"same is the first earlier row with identical 52 numbers, or 0."."""
+    """"same is the first earlier row with identical" 85 "numbers, or 0."."""
     numbers = evaluation.numbers_of(table, row)
     for earlier in range(1, row):
         if evaluation.numbers_of(table, earlier) == numbers:
@@ -87,8 +88,8 @@ def list_into(data: bytes, table: list, ranges: list, text: bytearray) -> sheet.
 
 
 def listing(data: bytes) -> bytes:
-    """"It reads a sheet from standard input [...] and it prints"; "The program lends a table of
-    1,560 numbers, all zero at the start.", and a table of ranges of 60, all zero too."""
+    """"It reads a sheet from standard input [...] and it prints"; "The program lends a table of"
+    4,080 "numbers, all zero at the start.", and a table of ranges of 96, all zero too."""
     text = bytearray(TEXT_ROOM)
     answer = list_into(data, [0] * TABLE_LENGTH, [0] * RANGES_LENGTH, text)
     return bytes(text[: answer.length])
@@ -98,9 +99,6 @@ def files() -> dict[str, bytes]:
     """The files of the crate `ranges`, by their paths in it: the specification's example."""
     return {"stdin": EXAMPLE_SHEET, "stdout": EXAMPLE_LISTING}
 
-
-assert TABLE_LENGTH == rows.NUMBERS * evaluation.ROWS_LIMIT
-assert RANGES_LENGTH == evaluation.RANGE_NUMBERS * evaluation.ROWS_LIMIT
 
 if __name__ == "__main__":
     sys.stdout.buffer.write(listing(sys.stdin.buffer.read()))

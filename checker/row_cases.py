@@ -6,8 +6,8 @@ roots, and N1 to N5 of products to the nearest, row by row.
 writes `stdout` into the folder given.
 
 One line for each example, its fields separated by one space: the label (`P1`); then `refused 6`,
-`refused 7` or `refused 12`, or the 52 numbers of the resulting row (centre, 30 linear coefficients,
-21 pair coefficients) followed by low and high of its own range, which are an input's ends. P12 and
+`refused 7` or `refused 12`, or the 85 numbers of the resulting row (centre, 48 linear coefficients,
+36 pair coefficients) followed by low and high of its own range, which are an input's ends. P12 and
 P13, which are in two parts, have a line for each part, with `a` and `b` behind the label.
 
 Which row owns which symbol (row r owns symbol r):

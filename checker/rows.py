@@ -1,20 +1,25 @@
 """Row arithmetic in exact whole numbers.
 
-The specification, "A row" and "What each row becomes" (manual, section 5). A row is a list of 52
-numbers: place 0 is the centre, place i the linear coefficient of symbol i, and places 31 to 51 hold
+The specification, "A row" and "What each row becomes" (manual, section 5), with the request 2026-07:
+"a row has 85 numbers: centre, 48 linear, 36 pairs in the same manner". A row is a list of these:
+place 0 is the centre, place i the linear coefficient of symbol i, and behind the last symbol stand
 the pair coefficients in their order.
 """
 
 import math
 from typing import NamedTuple
 
+import sheet
+
 UNIT = 4_096
 N = UNIT * UNIT
-SYMBOLS = 30
-SQUARES_LIMIT = 6
 SPAN_LIMIT = 1_073_741_824
 
-# "(1,1), (1,2) to (1,6), (2,2) and so on to (6,6)"
+# "Row r owns symbol r": every input and every step has one.
+SYMBOLS = sheet.INPUTS_LIMIT + sheet.STEPS_LIMIT
+SQUARES_LIMIT = sheet.INPUTS_LIMIT
+
+# "(1,1), (1,2)" to (1,8), "(2,2) and so on" to (8,8)
 PAIRS = [(i, j) for i in range(1, SQUARES_LIMIT + 1) for j in range(i, SQUARES_LIMIT + 1)]
 PAIR_PLACE = {pair: 1 + SYMBOLS + index for index, pair in enumerate(PAIRS)}
 NUMBERS = 1 + SYMBOLS + len(PAIRS)
@@ -52,7 +57,7 @@ def absolute_sum(numbers) -> int:
 
 
 def span(row) -> int:
-    """"Span: the sum of the absolute values of all 52 numbers."."""
+    """"Span: the sum of the absolute values of all" 85 "numbers."."""
     return absolute_sum(row)
 
 
@@ -85,8 +90,8 @@ def high(row) -> int:
 
 
 def form_range(row) -> Range:
-    """"Range, after formula (8) of source document 000": the range of the form that the 52 numbers
-    make."""
+    """"Range, after formula (8) of source document 000": the range of the form that the numbers of a
+    row make."""
     return Range(low(row), high(row))
 
 

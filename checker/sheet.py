@@ -7,8 +7,8 @@ sections 2 and 6).
 import re
 from typing import NamedTuple
 
-INPUTS_LIMIT = 6
-STEPS_LIMIT = 24
+INPUTS_LIMIT = 8
+STEPS_LIMIT = 40
 END_LIMIT = 268_435_456
 SHEET_LIMIT = 1_024
 
@@ -46,7 +46,7 @@ class Step(NamedTuple):
 
 
 class Schedule(NamedTuple):
-    """Counts, room for the ends of 6 inputs and room for 24 steps.
+    """Counts, room for the ends of the most inputs and room for the most steps.
 
     A schedule handed over may hold any whole number anywhere; what lies beyond the counts
     means nothing.
@@ -101,7 +101,8 @@ def within_limits(value: int) -> bool:
 
 
 def counts_in_order(counts: Counts) -> bool:
-    """"inputs 1 to 6, squares 0 to inputs, steps 1 to 24"."""
+    """"inputs 1 to" 8, "squares 0 to inputs, steps 1 to" 40: "Limits become 8 inputs and 40
+    steps"."""
     return (
         1 <= counts.inputs <= INPUTS_LIMIT
         and 0 <= counts.squares <= counts.inputs

@@ -10,6 +10,7 @@ many bytes. `stdout` holds for each case either the line `refused NUMBER PLACE`,
 1,200 bytes.
 """
 
+import itertools
 import sys
 
 import sheet
@@ -20,17 +21,26 @@ PLAIN = sheet.schedule(
     1, [(-512, 512), (4096, 8192)], [(1, 0, 0, -7), (4, 1, 3, 0), (5, 2, 0, 0)]
 )
 LARGEST = sheet.schedule(
-    6, [(-268_435_456, -268_435_456)] * 6, [(1, 0, 0, -268_435_456)] * 24
+    sheet.INPUTS_LIMIT,
+    [(-sheet.END_LIMIT, -sheet.END_LIMIT)] * sheet.INPUTS_LIMIT,
+    [(1, 0, 0, -sheet.END_LIMIT)] * sheet.STEPS_LIMIT,
 )
-EVERY_CODE = sheet.schedule(
-    6,
-    [(0, 1), (-1, 0), (-268_435_456, 268_435_456), (7, 7), (-2, -1), (268_435_455, 268_435_456)],
-    [(1, 0, 0, 268_435_456)]
-    + [(code, 1 + code, 3 + code, 0) for code in (2, 3, 4)]
-    + [(5, 10, 0, 0), (5, 1, 0, 0), (2, 12, 12, 0), (3, 13, 1, 0), (4, 14, 13, 0)]
-    + [(6, 15, 0, 0), (6, 1, 0, 0)]
-    + [(4, row - 1, row - 2, 0) for row in range(18, 31)],
-)
+
+
+def every_code() -> sheet.Schedule:
+    """The most inputs and steps: each code on the first inputs, on the last ones and on what came
+    before, and then products of the two rows before."""
+    ends = [(0, 1), (-1, 0), (-268_435_456, 268_435_456), (7, 7), (-2, -1), (268_435_455, 268_435_456)]
+    ends = (ends * sheet.INPUTS_LIMIT)[: sheet.INPUTS_LIMIT]
+    last = len(ends)
+    steps = [(1, 0, 0, 268_435_456), *((code, last - 1, last, 0) for code in (2, 3, 4))]
+    steps += [(5, last, 0, 0), (6, last - 1, 0, 0)]
+    steps += [*((code, 1 + code, 3 + code, 0) for code in (2, 3, 4)), (5, 1, 0, 0), (6, 1, 0, 0)]
+    steps += [(code, last + 4, last + 5, 0) for code in (2, 3, 4)]
+    steps += [(code, last + 6, 0, 0) for code in (5, 6)]
+    for row in range(last + len(steps) + 1, last + sheet.STEPS_LIMIT + 1):
+        steps.append((4, row - 1, row - 2, 0))
+    return sheet.schedule(last, ends, steps)
 
 # One line of each kind in the sheet of PLAIN, as (kind, text line).
 LINE_KINDS = [
@@ -68,12 +78,12 @@ def with_field(schedule, line, field, content):
 
 
 def valid_sheets():
-    yield from (sheet.text(schedule) for schedule in (TINY, PLAIN, LARGEST, EVERY_CODE))
-    for inputs in range(1, 7):
+    yield from (sheet.text(schedule) for schedule in (TINY, PLAIN, LARGEST, every_code()))
+    for inputs in range(1, sheet.INPUTS_LIMIT + 1):
         for squares in range(inputs + 1):
             ends = [(-number, number * 1000) for number in range(1, inputs + 1)]
             yield sheet.text(sheet.schedule(squares, ends, [(4, 1, inputs, 0)]))
-    for steps in range(1, 25):
+    for steps in range(1, sheet.STEPS_LIMIT + 1):
         chain = [(2, number, number, 0) for number in range(1, steps + 1)]
         yield sheet.text(sheet.schedule(0, [(-1, 1)], chain))
     for value in (0, 1, -1, 9, 10, -10, 4095, -4096, 268_435_455, 268_435_456, -268_435_456):
@@ -98,7 +108,7 @@ def lengths():
     for size in (1024, 1025):
         yield b"\n" * size
         yield b"i" * size
-        yield (sheet.text(LARGEST) + b"1 0 0 0\n" * 53)[:size]
+        yield (sheet.text(LARGEST) + b"1 0 0 0\n" * size)[:size]
         yield sheet.COUNT_NAMES + b"\n" + b"1" * (size - 21)
         yield (sheet.text(LARGEST) * 2)[:size]
     yield plain + plain
@@ -164,15 +174,34 @@ def number_fields():
 
 
 def count_limits():
-    """Cause 3."""
+    """Cause 3: one beyond each limit, alone and with the others at theirs, and far beyond."""
+    inputs, steps = sheet.INPUTS_LIMIT, sheet.STEPS_LIMIT
     for counts in (
-        "0 0 1", "7 0 1", "6 7 1", "1 2 1", "2 3 3", "1 -1 1", "-1 0 1", "-1 -1 1", "-1 -2 1",
-        "1 0 0", "1 0 25", "1 0 -1", "6 6 25", "7 7 24", "0 0 0", "0 1 1",
+        "0 0 1", f"{inputs + 1} 0 1", f"{inputs} {inputs + 1} 1", "1 2 1", "2 3 3", "1 -1 1", "-1 0 1",
+        "-1 -1 1", "-1 -2 1", "1 0 0", f"1 0 {steps + 1}", "1 0 -1", f"{inputs} {inputs} {steps + 1}",
+        f"{inputs + 1} {inputs + 1} {steps}", f"{inputs + 1} {inputs + 1} {steps + 1}", "0 0 0", "0 1 1",
         "1 0 9999999999", "9999999999 0 1", "9999999999 9999999999 1", "-9999999999 0 0",
     ):
         yield with_line(PLAIN, 2, counts.encode())
         yield sheet.COUNT_NAMES + b"\n" + counts.encode() + b"\n"
         yield sheet.COUNT_NAMES + b"\n" + counts.encode()
+
+
+def whole_sheets_about_the_limits():
+    """Sheets with all lines that their counts ask for, at the limits and one beyond each; and at the
+    limits with a line of ends or of a step more than counted."""
+    at_limits = sheet.INPUTS_LIMIT, sheet.STEPS_LIMIT
+    for counts in itertools.product(*((1, limit, limit + 1) for limit in at_limits)):
+        yield sheet_of_counts(*counts, *counts)
+    inputs, steps = at_limits
+    yield sheet_of_counts(inputs, steps, inputs + 1, steps)
+    yield sheet_of_counts(inputs, steps, inputs, steps + 1)
+
+
+def sheet_of_counts(inputs, steps, end_lines, step_lines):
+    """Bytes with these counts and so many lines."""
+    lines = [sheet.COUNT_NAMES, b"%d 1 %d" % (inputs, steps), sheet.END_NAMES, *[b"-9 9"] * end_lines]
+    return joined([*lines, sheet.STEP_NAMES, *[b"4 1 1 0"] * step_lines])
 
 
 def end_limits():
@@ -202,7 +231,8 @@ def step_faults():
             yield with_line(PLAIN, line, b"1 %d %d %d" % fields)
         for value in (268_435_457, -268_435_457, 9_999_999_999, 268_435_456, -268_435_456):
             yield with_line(PLAIN, line, b"1 0 0 %d" % value)
-        named = (0, 1, row - 1, row, row + 1, 30, 31, -1, 256, 257, 9_999_999_999)
+        last = sheet.INPUTS_LIMIT + sheet.STEPS_LIMIT
+        named = (0, 1, row - 1, row, row + 1, last, last + 1, -1, 256, 257, 9_999_999_999)
         for code in (2, 3, 4):
             for other in named:
                 yield with_line(PLAIN, line, b"%d %d 1 0" % (code, other))
@@ -246,8 +276,8 @@ def competing_causes():
 def cases() -> list[bytes]:
     """Every case once, in a fixed order."""
     groups = (
-        valid_sheets, lengths, line_layouts, number_fields, count_limits, end_limits, step_faults,
-        competing_causes,
+        valid_sheets, lengths, line_layouts, number_fields, count_limits,
+        whole_sheets_about_the_limits, end_limits, step_faults, competing_causes,
     )
     return list(dict.fromkeys(case for group in groups for case in group()))
 

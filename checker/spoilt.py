@@ -39,8 +39,8 @@ def one_less(name):
 
 
 def on_shared_symbol(name):
-    """The operation with its own coefficient moved to the last symbol. Row 30 owns that symbol
-    itself and is refused, so that sheets of 30 rows play no part."""
+    """The operation with its own coefficient moved to the last symbol. The row that owns that symbol
+    itself is refused, so that sheets of the most rows play no part."""
 
     def operation(*arguments):
         own = arguments[-1]
@@ -150,6 +150,11 @@ def totals_with_one_cross_product(x, y, squares):
     return totals
 
 
+def pairs_in_use_but(left_out):
+    """The pairs in use without some of them."""
+    return [[pair for pair in pairs if not left_out(*pair)] for pairs in rows.PAIRS_IN_USE]
+
+
 UNSOUND = {
     "an input's own coefficient one smaller": one_less("input_row"),
     "a product's own coefficient one smaller": one_less("multiply"),
@@ -181,6 +186,13 @@ UNSOUND = {
     "low without negative squares": {"low": low_without_squares},
     "high without positive squares": {"high": high_without_squares},
     "one cross product missing": {"product_totals": totals_with_one_cross_product},
+    "the pairs of the last input left out": {
+        "PAIRS_IN_USE": pairs_in_use_but(lambda place, i, j: j == rows.SQUARES_LIMIT)
+    },
+    "the pair of the last two inputs left out": {
+        "PAIRS_IN_USE": pairs_in_use_but(lambda place, i, j: rows.PAIRS[-2] == (i, j))
+    },
+    "the symbols of the last rows left out": {"LINEAR_PLACES": rows.LINEAR_PLACES[: -rows.SYMBOLS // 4]},
 }
 
 
@@ -446,6 +458,16 @@ def root_refused_by_7(x, own_range, squares, own):
     return REAL["root"](x, own_range, squares, own)
 
 
+def pairs_placed_for_one_input_fewer():
+    """The pairs in use, each where it would stand if there were one input fewer: that of the first
+    input and the last stands where that of the second input and itself does, and so on."""
+    starts = [0, 0]
+    for i in range(1, rows.SQUARES_LIMIT):
+        starts.append(starts[i] + rows.SQUARES_LIMIT - i)
+    first = 1 + rows.SYMBOLS
+    return [[(first + starts[i] + j - i, i, j) for _, i, j in pairs] for pairs in rows.PAIRS_IN_USE]
+
+
 def input_centre_toward_zero(low_end, high_end, own):
     row = REAL["input_row"](low_end, high_end, own)
     row[0] = toward_zero(low_end + high_end, 2)
@@ -526,6 +548,7 @@ OTHER_NUMBERS = BY_FORM | {
     "an input's centre toward zero": {"input_row": input_centre_toward_zero},
     "one square more in use": {"PAIRS_IN_USE": rows.PAIRS_IN_USE[1:] + rows.PAIRS_IN_USE[-1:]},
     "one square less in use": {"PAIRS_IN_USE": rows.PAIRS_IN_USE[:1] + rows.PAIRS_IN_USE[:-1]},
+    "pairs placed for one input fewer": {"PAIRS_IN_USE": pairs_placed_for_one_input_fewer()},
 }
 
 
@@ -585,10 +608,9 @@ class WithFirstFieldTestedFirst(sheet.TextLines):
         return super().numbers(count)
 
 
-def counts_with_squares_to_6(counts):
-    return REAL_SHEET["counts_in_order"](
-        counts._replace(squares=0 if 0 <= counts.squares <= 6 else counts.squares)
-    )
+def counts_with_squares_to_the_limit(counts):
+    within = 0 <= counts.squares <= sheet.INPUTS_LIMIT
+    return REAL_SHEET["counts_in_order"](counts._replace(squares=0 if within else counts.squares))
 
 
 def ends_of_some_width(ends):
@@ -677,9 +699,11 @@ OTHER_SHEETS = {
     "more fields than a line has": {"TextLines": WithMoreFields},
     "names of the right length": {"TextLines": WithNamesByLength},
     "3, 4 or 5 before 2": {"TextLines": WithFirstFieldTestedFirst},
-    "5 inputs at most": {"INPUTS_LIMIT": 5},
-    "23 steps at most": {"STEPS_LIMIT": 23},
-    "squares above inputs": {"counts_in_order": counts_with_squares_to_6},
+    "one input less": {"INPUTS_LIMIT": sheet.INPUTS_LIMIT - 1},
+    "one input more": {"INPUTS_LIMIT": sheet.INPUTS_LIMIT + 1},
+    "one step less": {"STEPS_LIMIT": sheet.STEPS_LIMIT - 1},
+    "one step more": {"STEPS_LIMIT": sheet.STEPS_LIMIT + 1},
+    "squares above inputs": {"counts_in_order": counts_with_squares_to_the_limit},
     "ends one further": {"END_LIMIT": sheet.END_LIMIT + 1},
     "ends one less far": {"END_LIMIT": sheet.END_LIMIT - 1},
     "ends of zero width refused": {"ends_in_order": ends_of_some_width},
@@ -908,7 +932,7 @@ def same_by_ranges(table, count, first, second):
 
 def same_by_first_numbers(table, count, first, second):
     answer = REAL_CALLS["same_rows"](table, count, first, second)
-    parts = [evaluation.numbers_of(table, row)[:51] for row in (first, second)]
+    parts = [evaluation.numbers_of(table, row)[:-1] for row in (first, second)]
     return answer._replace(same=not answer.number and parts[0] == parts[1])
 
 
@@ -944,15 +968,19 @@ def evaluate_without_measuring(schedule, table, ranges):
 ROW_CAUSES = (6, 7, 12)
 
 
+def clear_row(table, width, row):
+    table[width * (row - 1) : width * row] = [0] * width
+
+
 def evaluate_and_fill(first, second, causes=ROW_CAUSES):
     """After these causes the row refused is filled with 0, in the tables named."""
 
     def evaluate(schedule, table, ranges):
         answer = REAL_CALLS["evaluate"](schedule, table, ranges)
         if answer.number in causes and first:
-            table[52 * (answer.place - 1) : 52 * answer.place] = [0] * 52
+            clear_row(table, rows.NUMBERS, answer.place)
         if answer.number in causes and second:
-            ranges[2 * (answer.place - 1) : 2 * answer.place] = [0] * 2
+            clear_row(ranges, evaluation.RANGE_NUMBERS, answer.place)
         return answer
 
     return {"evaluate": evaluate}
@@ -979,6 +1007,11 @@ def evaluate_and_write_before_8(schedule, table, ranges):
     if answer.number == 8:
         REAL_CALLS["evaluate"](schedule, table, [0] * listing.RANGES_LENGTH)
     return answer
+
+
+def store_without_the_last(worked, table, ranges):
+    """The last of the most rows is not written."""
+    REAL_CALLS["store"](worked[: evaluation.ROWS_LIMIT - 1], table, ranges)
 
 
 def evaluate_one_number_further(schedule, table, ranges):
@@ -1133,8 +1166,10 @@ FAULTS_OF_RANGES = (
 OTHER_CALLS = {
     "8 before 9": asking_refusal_in(8, 9, 6),
     "6 before 8": asking_refusal_in(9, 6, 8),
-    "a count of 31": asking_refusal_in(9, 8, 6, rows_limit=31),
-    "a count of 29 at most": asking_refusal_in(9, 8, 6, rows_limit=29),
+    "a count above the limit": asking_refusal_in(9, 8, 6, rows_limit=evaluation.ROWS_LIMIT + 1),
+    "a count below the limit at most": asking_refusal_in(
+        9, 8, 6, rows_limit=evaluation.ROWS_LIMIT - 1
+    ),
     "sums that wrap at 2^64": asking_refusal_in(9, 8, 6, wrapping=2**64),
     "sums that wrap at 2^32": asking_refusal_in(9, 8, 6, wrapping=2**32),
     "6 of the higher row first": asking_refusal_in(
@@ -1143,15 +1178,19 @@ OTHER_CALLS = {
     "6 of the row named first": asking_refusal_in(9, 8, 6, rows_order=list),
     "a range with 8 before 9": range_refusal_in(8, 9, 6),
     "a range with 6 before 8": range_refusal_in(9, 6, 8),
-    "a range of a count of 31": range_refusal_in(9, 8, 6, rows_limit=31),
-    "a range of a count of 29 at most": range_refusal_in(9, 8, 6, rows_limit=29),
+    "a range of a count above the limit": range_refusal_in(
+        9, 8, 6, rows_limit=evaluation.ROWS_LIMIT + 1
+    ),
+    "a range of a count below the limit at most": range_refusal_in(
+        9, 8, 6, rows_limit=evaluation.ROWS_LIMIT - 1
+    ),
     "a range with sums that wrap at 2^64": range_refusal_in(9, 8, 6, wrapping=2**64),
     "a range with sums that wrap at 2^32": range_refusal_in(9, 8, 6, wrapping=2**32),
     "a range whose second table is not measured": range_refusal_on(
-        lambda table, ranges, row: (table, ranges + [0] * 64)
+        lambda table, ranges, row: (table, ranges + [0] * listing.RANGES_LENGTH)
     ),
     "a range whose first table is not measured": range_refusal_on(
-        lambda table, ranges, row: (table + [0] * 1612, ranges)
+        lambda table, ranges, row: (table + [0] * listing.TABLE_LENGTH, ranges)
     ),
     "low above high answered": range_refusal_on(with_ends(lambda low, high: (low, low))),
     "low at high refused": range_refusal_on(with_ends(lambda low, high: (low, high - 1))),
@@ -1179,6 +1218,7 @@ OTHER_CALLS = {
     "the row refused by 12 cleared in the second table": evaluate_and_fill(False, True, (12,)),
     "no row written beside a 12": evaluate_and_undo(True, False, (12,)),
     "no range written beside a 12": evaluate_and_undo(False, True, (12,)),
+    "the last of the most rows not written": {"store": store_without_the_last},
     "a number written beyond the rows": {"evaluate": evaluate_one_number_further},
     "a number written beyond the ranges": {"evaluate": evaluate_one_end_further},
 }
@@ -1251,6 +1291,12 @@ def line_with(change):
     return {"listing_line": listing_line}
 
 
+def text_without_the_last(data, table, ranges):
+    """The line of the last of the most rows is left out."""
+    text = REAL_LISTING["printed_text"](data, table, ranges)
+    return b"".join(text.splitlines(keepends=True)[: evaluation.ROWS_LIMIT])
+
+
 def last_same_row(table, row):
     numbers = evaluation.numbers_of(table, row)
     return max((n for n in range(1, row) if evaluation.numbers_of(table, n) == numbers), default=0)
@@ -1278,6 +1324,7 @@ OTHER_LISTINGS = {
         lambda row, low, high, own, same: (row, high, low, own, same)
     ),
     "the last row that is the same": {"first_same_row": last_same_row},
+    "the last of the most rows not listed": {"printed_text": text_without_the_last},
 }
 
 
@@ -1511,14 +1558,15 @@ OTHER_FORMULAS = {
     "the place of 5 that of the last literal": {"test_literals": place_of_last_literal},
     "the place of 5 behind the literal": {"test_literals": place_behind_literal},
     "letters beyond the inputs": {"Reader": WithEveryLetter},
+    "no letter of the last input": {"LETTERS": formula.LETTERS[:-1]},
     "capital letters": {"Reader": WithCapitals},
     "blanks passed over": {"Reader": WithBlanks},
     "bytes behind a formula": {"Reader": WithoutEndOfText},
     "11 before 5": {"schedule_of": schedule_with_literals_last},
     "10 before 3 and 4": {"schedule_of": schedule_with_text_first},
     "no step accepted": schedule_of_steps(0, sheet.STEPS_LIMIT),
-    "a formula of 25 steps": schedule_of_steps(1, sheet.STEPS_LIMIT + 1),
-    "a formula of 23 steps at most": schedule_of_steps(1, sheet.STEPS_LIMIT - 1),
+    "a formula of one step more": schedule_of_steps(1, sheet.STEPS_LIMIT + 1),
+    "a formula of one step fewer at most": schedule_of_steps(1, sheet.STEPS_LIMIT - 1),
     "ends kept beyond the inputs": {"schedule_of": schedule_with_all_ends},
     "ends tested beyond the inputs": {"test_inputs": inputs_with_all_ends},
 }

@@ -77,12 +77,12 @@ def reciprocal_of_input(low, high, squares):
 
 def numbers(centre, linear, pairs=()):
     """A row from its centre and the coefficients that are not 0."""
-    row = [0] * 52
+    row = [0] * rows.NUMBERS
     row[0] = centre
     for symbol, coefficient in linear.items():
         row[symbol] = coefficient
     for index, coefficient in enumerate(pairs):
-        row[31 + index] = coefficient
+        row[rows.PAIR_PLACE[1, 1] + index] = coefficient
     return row
 
 
@@ -141,8 +141,8 @@ class ProvedExamples(unittest.TestCase):
         row = reciprocal_of_input(1, 2, 0)
         self.assertEqual(row, numbers(16_777_216, {1: -16_777_216, 2: 16_777_216}))
         for squares in (0, 1):
-            self.assertEqual(len(reciprocal_of_input(1, 2, squares)), 52)
-            self.assertEqual(len(reciprocal_of_input(1, 3, squares)), 52)
+            self.assertEqual(len(reciprocal_of_input(1, 2, squares)), rows.NUMBERS)
+            self.assertEqual(len(reciprocal_of_input(1, 3, squares)), rows.NUMBERS)
 
     def test_p13_span(self):
         self.assertEqual(of_two_constants(4, 268_435_456, 16_384), numbers(2**30, {}))
@@ -192,6 +192,11 @@ def answer_of(answer, data):
         return None
 
 
+def alike(lines, expected):
+    """Whether lines are the expected ones; none is made behind the first that is not."""
+    return all(line == right for line, right in itertools.zip_longest(lines, expected))
+
+
 def place_of(term):
     """The place in a row of a term, given as the symbols that it multiplies."""
     return rows.PAIR_PLACE[term] if len(term) == 2 else sum(term)
@@ -199,7 +204,7 @@ def place_of(term):
 
 def multiplied_out(x, y):
     """The product of two forms, each of its terms by itself."""
-    terms = [(), *((i,) for i in range(1, 31)), *rows.PAIRS]
+    terms = [(), *((i,) for i in rows.LINEAR_PLACES), *rows.PAIRS]
     product = collections.Counter()
     for first, p in zip(terms, x):
         for second, q in zip(terms, y):
@@ -208,12 +213,25 @@ def multiplied_out(x, y):
 
 
 class Rows(unittest.TestCase):
+    def test_the_numbers_of_the_specification(self):
+        """"a row has 85 numbers: centre, 48 linear, 36 pairs in the same manner. A full table is 4,080
+        numbers; the row count given may reach 48." The table of ranges has two a row."""
+        self.assertEqual((1, rows.SYMBOLS, len(rows.PAIRS)), (1, 48, 36))
+        self.assertEqual(rows.NUMBERS, 85)
+        self.assertEqual(evaluation.ROWS_LIMIT, 48)
+        self.assertEqual((listing.TABLE_LENGTH, listing.RANGES_LENGTH), (4080, 96))
+        self.assertEqual(formula.LETTERS, b"abcdefgh")
+
     def test_pair_places(self):
-        self.assertEqual(rows.NUMBERS, 52)
-        self.assertEqual(rows.PAIR_PLACE[1, 1], 31)
-        self.assertEqual(rows.PAIR_PLACE[1, 6], 36)
-        self.assertEqual(rows.PAIR_PLACE[2, 2], 37)
-        self.assertEqual(rows.PAIR_PLACE[6, 6], 51)
+        """(1,1), (1,2) to (1,8), (2,2) and so on to (8,8), behind the centre and 48 symbols: 8 pairs
+        with 1, 7 with 2, and the last pair is the 36th."""
+        self.assertEqual(rows.PAIR_PLACE[1, 1], 49)
+        self.assertEqual(rows.PAIR_PLACE[1, 8], 56)
+        self.assertEqual(rows.PAIR_PLACE[2, 2], 57)
+        self.assertEqual(rows.PAIR_PLACE[7, 8], 83)
+        self.assertEqual(rows.PAIR_PLACE[8, 8], 84)
+        self.assertEqual(list(rows.PAIR_PLACE.values()), [*range(49, 85)])
+        self.assertEqual(sorted(rows.SQUARED_PLACES + rows.MIXED_PLACES), [*range(49, 85)])
 
     def test_product_of_two_inputs(self):
         """(1 + a)(2 + 3b) with squares 2, in units of 4096 and by hand."""
@@ -251,13 +269,13 @@ class Rows(unittest.TestCase):
         others add up to at most the dropped part (to just that where all numbers are positive)."""
         rng = random.Random(8)
         for _ in range(60):
-            squares = rng.randint(0, 6)
+            squares = rng.randint(0, rows.SQUARES_LIMIT)
             low = rng.choice((-9, 1))
-            x, y = ([rng.randint(low, 9) for _ in range(52)] for _ in range(2))
-            kept = [(), *((i,) for i in range(1, 31))]
+            x, y = ([rng.randint(low, 9) for _ in range(rows.NUMBERS)] for _ in range(2))
+            kept = [(), *((i,) for i in rows.LINEAR_PLACES)]
             kept += [pair for pair in rows.PAIRS if pair[1] <= squares]
             for row in (x, y):
-                for place, pair in enumerate(rows.PAIRS, 31):
+                for pair, place in rows.PAIR_PLACE.items():
                     row[place] *= pair in kept
             product = multiplied_out(x, y)
             totals = rows.product_totals(x, y, squares)
@@ -274,13 +292,36 @@ class Rows(unittest.TestCase):
         floor(-2·16777216/25) + floor(2·671089/5)."""
         operand = numbers(5, {1: 1, 2: 1}, [0, 2])
         made = rows.candidate(operand, 2)
-        self.assertEqual(made[:3], [3355443, -671089, -671089])
-        self.assertEqual(made[31:34], [134217, -1342178 + 268435, 0])
-        self.assertEqual(made[37], 134217)
+        expected = numbers(3355443, {1: -671089, 2: -671089}, [134217, -1342178 + 268435])
+        expected[rows.PAIR_PLACE[2, 2]] = 134217
+        self.assertEqual(made, expected)
+
+    def test_the_pairs_of_the_last_two_inputs(self):
+        """Of the last inputs g = 1 + a and h = 2 + b the product is 2 + 2a + b + ab; where the last one
+        is in no pair, ab is dropped. The candidate of 5 + a + b + 2ab is as above, and that of its root
+        143 with the slopes 14, 14 and 28."""
+        last = rows.SQUARES_LIMIT
+        before, mixed, square = (last - 1,) * 2, (last - 1, last), (last,) * 2
+        g, h = numbers(4096, {last - 1: 4096}), numbers(8192, {last: 4096})
+        product = numbers(8192, {last - 1: 8192, last: 4096})
+        product[rows.PAIR_PLACE[mixed]] = 4096
+        self.assertEqual(rows.multiply(g, h, last, last + 1), product)
+        self.assertEqual(rows.multiply(h, g, last, last + 1), product)
+        dropped = numbers(8192, {last - 1: 8192, last: 4096, last + 1: 4096})
+        self.assertEqual(rows.multiply(g, h, last - 1, last + 1), dropped)
+        operand = numbers(5, {last - 1: 1, last: 1})
+        operand[rows.PAIR_PLACE[mixed]] = 2
+        made = numbers(3355443, {last - 1: -671089, last: -671089})
+        made[rows.PAIR_PLACE[before]] = made[rows.PAIR_PLACE[square]] = 134217
+        made[rows.PAIR_PLACE[mixed]] = -1342178 + 268435
+        self.assertEqual(rows.candidate(operand, last), made)
+        root = numbers(143, {last - 1: 14, last: 14})
+        root[rows.PAIR_PLACE[mixed]] = 28
+        self.assertEqual(rows.root_candidate(operand), root)
 
     def test_range_of_every_kind_of_number(self):
-        row = numbers(10, {1: -1, 30: 2}, [4, -8])
-        row[37] = -16
+        row = numbers(10, {1: -1, rows.SYMBOLS: 2}, [4, -8])
+        row[rows.PAIR_PLACE[2, 2]] = -16
         self.assertEqual(rows.form_range(row), (10 - 3 - 8 - 16, 10 + 3 + 8 + 4))
 
 
@@ -294,6 +335,7 @@ class Reading(unittest.TestCase):
         return answer.number, answer.place
 
     def test_order_of_causes(self):
+        most, most_steps = sheet.INPUTS_LIMIT, sheet.STEPS_LIMIT
         start = b"inputs squares steps\n"
         ends = start + b"1 0 1\nlow high\n"
         steps = ends + b"0 0\nstep first second value\n"
@@ -308,7 +350,10 @@ class Reading(unittest.TestCase):
             (start + b"9 0 1", (2, 2)),
             (start + b"1 2 1\n", (3, 2)),
             (start + b"1 -1 1\n", (3, 2)),
-            (start + b"1 0 25\n", (3, 2)),
+            (start + b"1 0 %d\n" % (most_steps + 1), (3, 2)),
+            (start + b"%d 0 1\n" % (most + 1), (3, 2)),
+            (start + b"%d %d %d\n" % (most, most + 1, most_steps), (3, 2)),
+            (start + b"%d %d %d\n" % (most, most, most_steps), (2, 3)),
             (start + b"1 0 10000000000\n", (2, 2)),
             (start + b"1 0 9999999999\n", (3, 2)),
             (start + b"1 0 1\n", (2, 3)),
@@ -370,6 +415,31 @@ class Reading(unittest.TestCase):
                 self.assertEqual(out, data + b"???")
                 self.assertEqual(sheet.read(bytes(out[:-3])).schedule, answer.schedule)
 
+    def test_the_longest_sheet(self):
+        """The most inputs and steps, each number as long as it can be: names and counts are 21 and 7
+        bytes, names and ends 9 and 22 for each input, names and steps 24 and 17 for each step."""
+        length = 21 + 7 + 9 + 22 * sheet.INPUTS_LIMIT + 24 + 17 * sheet.STEPS_LIMIT
+        self.assertEqual(length, 917)
+        data = sheet.text(sheet_cases.LARGEST)
+        self.assertEqual(len(data), length)
+        self.assertEqual(sheet.read(data), (0, 0, sheet_cases.LARGEST))
+        out = bytearray(length)
+        self.assertEqual(sheet.write(sheet_cases.LARGEST, out), (0, 0, length))
+        self.assertEqual(out, data)
+        self.assertEqual(sheet.write(sheet_cases.LARGEST, bytearray(length - 1)), (8, 0, 0))
+        self.assertEqual(len(listing.listing(data).splitlines()), 1 + rows.SYMBOLS)
+
+    def test_no_line_of_a_sheet_is_longer(self):
+        """None of a step that passes is longer than that of the least constant."""
+        longest = len(sheet.text(sheet_cases.LARGEST).splitlines()[-1])
+        for code in range(sheet.CONSTANT, sheet.ROOT + 1):
+            named = [0, 1, rows.SYMBOLS - 1]
+            values = [0, sheet.END_LIMIT, -sheet.END_LIMIT]
+            for first, second, value in itertools.product(named, named, values):
+                step = sheet.Step(code, first, second, value)
+                if sheet.step_in_order(step, rows.SYMBOLS):
+                    self.assertLessEqual(len(" ".join(map(str, step))), longest)
+
     def test_writer_needs_room(self):
         handed = sheet.read(listing.EXAMPLE_SHEET).schedule
         out = bytearray(len(listing.EXAMPLE_SHEET) - 1)
@@ -377,18 +447,21 @@ class Reading(unittest.TestCase):
         self.assertEqual(out, bytes(len(out)))
 
     def test_counts_of_any_value_are_3(self):
-        for counts in [(-(2**63), 0, 1), (1, 2**63 - 1, 1), (1, 0, 2**63 - 1), (7, 7, 25)]:
+        inputs, steps = sheet.INPUTS_LIMIT + 1, sheet.STEPS_LIMIT + 1
+        far = [(-(2**63), 0, 1), (1, 2**63 - 1, 1), (1, 0, 2**63 - 1)]
+        for counts in [*far, (inputs, inputs, steps), (inputs, 0, 1), (1, 0, steps)]:
             handed = sheet.ZEROS._replace(counts=sheet.Counts(*counts))
             self.assertEqual(sheet.write(handed, bytearray(2000)), (3, 2, 0))
-            self.assertEqual(evaluation.evaluate(handed, [0] * 1560, [0] * 60), (3, 2))
+            tables = [0] * listing.TABLE_LENGTH, [0] * listing.RANGES_LENGTH
+            self.assertEqual(evaluation.evaluate(handed, *tables), (3, 2))
 
     def test_what_lies_beyond_the_counts_changes_nothing(self):
         handed = sheet.read(listing.EXAMPLE_SHEET).schedule
         filled = handed._replace(
-            ends=handed.ends[:1] + (sheet.Ends(2**63 - 1, -(2**63)),) * 5,
-            steps=handed.steps[:6] + (sheet.Step(9, 2**63 - 1, -(2**63), 5),) * 18,
+            ends=handed.ends[:1] + (sheet.Ends(2**63 - 1, -(2**63)),) * (sheet.INPUTS_LIMIT - 1),
+            steps=handed.steps[:6] + (sheet.Step(9, 2**63 - 1, -(2**63), 5),) * (sheet.STEPS_LIMIT - 6),
         )
-        tables, outs = [([7] * 400, [8] * 20) for _ in range(2)], (bytearray(300), bytearray(300))
+        tables, outs = [([7] * 800, [8] * 20) for _ in range(2)], (bytearray(300), bytearray(300))
         for schedule, lent, out in zip((handed, filled), tables, outs):
             self.assertEqual(evaluation.evaluate(schedule, *lent), (0, 0))
             self.assertEqual(sheet.write(schedule, out).length, len(listing.EXAMPLE_SHEET))
@@ -420,7 +493,7 @@ class Formulas(unittest.TestCase):
             self.assertEqual([list(end) for end in ends[: counts.inputs]], expected["ends"], case)
             self.assertEqual([list(step) for step in steps[: counts.steps]], expected["steps"], case)
             count += 1
-        self.assertEqual(count, 300)
+        self.assertEqual(count, 271)
 
     def place(self, text, inputs):
         """The place of 10, or 0."""
@@ -504,7 +577,7 @@ class Formulas(unittest.TestCase):
                     self.assertTrue(text[place - 1 :].startswith(b"%d" % beyond[0]))
                     self.assertTrue(all(int(part) <= 2**28 for part in re.findall(rb"[0-9]+", text[: place - 1])))
                 else:
-                    self.assertEqual(number == 11, not 1 <= len(steps) <= 24, text)
+                    self.assertEqual(number == 11, not 1 <= len(steps) <= sheet.STEPS_LIMIT, text)
 
     def test_the_last_row_has_the_value_of_the_formula(self):
         rng = random.Random("values")
@@ -543,15 +616,26 @@ class Formulas(unittest.TestCase):
 
     def test_order_of_causes(self):
         good, wrong = [(0, 1), (0, 1)], [(0, 1), (1, 0)]
+        most, most_steps = sheet.INPUTS_LIMIT, sheet.STEPS_LIMIT
+        last, beyond = formula.LETTERS[-1:], bytes([formula.LETTERS[-1] + 1])
+        ends = good * most
+        wrong_at_last = ends[: most - 1] + [(1, 0)]
         for inputs, squares, ends, text, expected in [
             (2, 3, wrong, b"?", (3, 2)),
             (2, 2, wrong, b"?", (4, 5)),
             (1, 1, wrong, b"b", (10, 1)),
             (2, 0, good, b"a+268435457+", (10, 13)),
-            (2, 0, good, b"a+268435457" + b"+a" * 30, (5, 3)),
-            (2, 0, good, b"a+268435456" + b"+a" * 22, (0, 0)),
-            (2, 0, good, b"a+268435456" + b"+a" * 23, (11, 0)),
+            (2, 0, good, b"a+268435457" + b"+a" * most_steps, (5, 3)),
+            (2, 0, good, b"a+268435456" + b"+a" * (most_steps - 2), (0, 0)),
+            (2, 0, good, b"a+268435456" + b"+a" * (most_steps - 1), (11, 0)),
             (2, 0, good, b"b", (11, 0)),
+            (most, most, ends, b"a*" + last, (0, 0)),
+            (most, most, ends, b"a*" + beyond, (10, 3)),
+            (most - 1, 0, ends, b"a*" + last, (10, 3)),
+            (most + 1, 0, ends, b"a*" + last, (3, 2)),
+            (most, most + 1, ends, b"a*" + last, (3, 2)),
+            (most, 0, wrong_at_last, b"?", (4, 3 + most)),
+            (most - 1, 0, wrong_at_last, b"?", (10, 1)),
         ]:
             self.assertEqual(formula.read(inputs, squares, ends, text)[:2], expected, text)
 
@@ -596,7 +680,7 @@ class OddEnds(unittest.TestCase):
         for low, high in [(0, 1), (-1, 0), (0, 0), (-1, 1), (-2, 1), (-1, 2)]:
             self.assertEqual(reciprocal_of_input(low, high, 0), (7, 2))
         for low, high in [(1, 1), (-1, -1), (1, 2), (-2, -1), (1, 4), (-4, -1), (1, 2**13)]:
-            self.assertEqual(len(reciprocal_of_input(low, high, 0)), 52)
+            self.assertEqual(len(reciprocal_of_input(low, high, 0)), rows.NUMBERS)
 
 
 # Ranges on either side of 0 and around it, the product of each with each, and the four products of
@@ -873,14 +957,14 @@ class Roots(unittest.TestCase):
         and -15. B: 31, a 4096 - 4004, ab 8192 - 8008, b² |-4096 + 4290|, a² 196 as a total; the
         product of all, 57², less 14² is dropped. (31 + 92 + 184 + 194 + 196 + 3053) / 64 is 58.6."""
         operand = numbers(4, {1: 1}, [0, 2])
-        operand[37] = -1
+        operand[rows.PAIR_PLACE[2, 2]] = -1
         self.assertEqual(rows.form_range(operand).low, 0)
         with self.assertRaises(rows.RowRefusal) as refused:
             rows.root(operand, rows.form_range(operand), 2, 3)
         self.assertEqual(refused.exception.number, 12)
         operand[0] = 5
         expected = numbers(143, {1: 14, 3: 60}, [0, 28])
-        expected[37] = -15
+        expected[rows.PAIR_PLACE[2, 2]] = -15
         self.assertEqual(rows.root(operand, rows.form_range(operand), 2, 3), expected)
 
     def test_12_at_the_ends(self):
@@ -889,11 +973,11 @@ class Roots(unittest.TestCase):
         for low, high in [(0, 0), (0, 1), (0, 5), (-1, 1), (-5, -1), (-1, 2**28), (-(2**28), 2**28)]:
             self.assertEqual(root_of_input(low, high, 0), (12, 2))
         for low, high in [(1, 1), (1, 2), (1, 3), (1, 2**20), (2, 2), (2, 3), (2**28, 2**28)]:
-            self.assertEqual(len(root_of_input(low, high, 0)), 52)
+            self.assertEqual(len(root_of_input(low, high, 0)), rows.NUMBERS)
         steps = [(1, 0, 0, 0), (2, 1, 2, 0), (6, 3, 0, 0)]
         self.assertEqual(last_row(0, [(1, 2)], steps), (12, 4))
-        self.assertEqual(len(last_row(0, [(1, 3)], steps)), 52)
-        self.assertEqual(len(last_row(0, [(2, 3)], steps)), 52)
+        self.assertEqual(len(last_row(0, [(1, 3)], steps)), rows.NUMBERS)
+        self.assertEqual(len(last_row(0, [(2, 3)], steps)), rows.NUMBERS)
 
     def test_low_is_that_of_the_ends(self):
         """3 + a, with the ends 3 and 4: 188 + |4096 - 3960| + 324 over the root of 4096 × 3, 110, up,
@@ -936,7 +1020,7 @@ class Roots(unittest.TestCase):
         self.assertEqual(self.refusal(passes_and_starts_below, above), 6)
         self.assertEqual(self.refusal(starts_below, above), 12)
         self.assertEqual(rows.root_candidate(starts_at_0)[:2], [512, 512])
-        self.assertEqual(len(rows.root(starts_at_0, above, 0, 3)), 52)
+        self.assertEqual(len(rows.root(starts_at_0, above, 0, 3)), rows.NUMBERS)
         self.assertEqual(rows.root_candidate(starts_at_minus_1)[:2], [512, 516])
         self.assertEqual(self.refusal(starts_at_minus_1, above), 12)
 
@@ -998,7 +1082,7 @@ class Roots(unittest.TestCase):
         """Where a root of a row below 1 is let through, an exact value below 0 is no root's."""
         handed = sheet.schedule(0, [(-1, 9)], [(6, 1, 0, 0)])
         with spoilt.spoilt("a root where low is below 1"):
-            seen = demand3.violations(handed, [demand3.Fraction(-1, 4096)], [0] * 31)
+            seen = demand3.violations(handed, [demand3.Fraction(-1, 4096)], [0] * (1 + rows.SYMBOLS))
         self.assertEqual(seen, [demand3.ROOT])
 
     def test_roots_are_as_frequent_as_reciprocals(self):
@@ -1061,27 +1145,53 @@ class Evaluating(unittest.TestCase):
     example = sheet.read(listing.EXAMPLE_SHEET).schedule
 
     def test_writes_its_rows_and_no_others(self):
-        table, ranges = [-9] * (52 * 7 + 5), [-9] * (2 * 7 + 5)
+        needed = rows.NUMBERS * 7
+        table, ranges = [-9] * (needed + 5), [-9] * (2 * 7 + 5)
         self.assertEqual(evaluation.evaluate(self.example, table, ranges), (0, 0))
-        self.assertEqual(table[52 * 7 :], [-9] * 5)
-        self.assertNotIn(-9, table[: 52 * 7])
+        self.assertEqual(table[needed:], [-9] * 5)
+        self.assertNotIn(-9, table[:needed])
         lines = [line.split() for line in listing.EXAMPLE_LISTING.splitlines()[1:]]
         listed = [int(end) for line in lines for end in line[1:3]]
         self.assertEqual(ranges, listed + [-9] * 5)
 
-    def test_needs_52_and_2_numbers_for_each_row(self):
-        for lengths in [(52 * 7 - 1, 14), (52 * 7, 13), (0, 14), (52 * 7, 0), (1560, 2), (52, 60)]:
+    def test_needs_its_numbers_and_2_for_each_row(self):
+        needed, full, full_ranges = rows.NUMBERS * 7, listing.TABLE_LENGTH, listing.RANGES_LENGTH
+        for lengths in [
+            (needed - 1, 14), (needed, 13), (0, 14), (needed, 0), (full, 2), (rows.NUMBERS, full_ranges),
+        ]:
             table, ranges = [-9] * lengths[0], [-8] * lengths[1]
             self.assertEqual(evaluation.evaluate(self.example, table, ranges), (8, 0))
             self.assertEqual((table, ranges), ([-9] * lengths[0], [-8] * lengths[1]))
 
+    def test_the_most_rows(self):
+        """A sheet of the most inputs, squares and steps fills full tables; one number less is 8. Each of
+        its rows may be asked for, under a count of as many and no more."""
+        handed = library_calls.FULLEST
+        most, full, full_ranges = evaluation.ROWS_LIMIT, listing.TABLE_LENGTH, listing.RANGES_LENGTH
+        self.assertEqual(handed.counts, (sheet.INPUTS_LIMIT, sheet.INPUTS_LIMIT, sheet.STEPS_LIMIT))
+        for lengths in [(full - 1, full_ranges), (full, full_ranges - 1)]:
+            table, ranges = [-9] * lengths[0], [-8] * lengths[1]
+            self.assertEqual(evaluation.evaluate(handed, table, ranges), (8, 0))
+            self.assertEqual((table, ranges), ([-9] * lengths[0], [-8] * lengths[1]))
+        table, ranges = [2**40] * full, [2**40] * full_ranges
+        self.assertEqual(evaluation.evaluate(handed, table, ranges), (0, 0))
+        self.assertNotIn(2**40, table + ranges)
+        asked = evaluation.row_range
+        self.assertEqual(asked(table, ranges, most, most), (0, 0, *ranges[-2:]))
+        self.assertEqual(evaluation.row_part(table, most, most), table[-rows.NUMBERS :])
+        self.assertEqual(asked(table, ranges, most + 1, most), (9, 0, 0, 0))
+        self.assertEqual(asked(table, ranges, most, most + 1), (9, 0, 0, 0))
+        self.assertEqual(asked(table[1:], ranges, most, 1), (8, 0, 0, 0))
+        self.assertEqual(asked(table, ranges[1:], most, 1), (8, 0, 0, 0))
+
     def test_after_a_refusal_the_rows_before_are_written(self):
         for step, number in [((5, 1, 0, 0), 7), ((4, 2, 2, 0), 6), ((6, 1, 0, 0), 12)]:
             handed = sheet.schedule(0, [(-5, 4)], [(1, 0, 0, 2**28), step, (2, 1, 1, 0)])
-            table, ranges = [-9] * (52 * 4), [-8] * (2 * 4)
+            written = 2 * rows.NUMBERS
+            table, ranges = [-9] * (2 * written), [-8] * (2 * 4)
             self.assertEqual(evaluation.evaluate(handed, table, ranges), (number, 3))
-            self.assertEqual(table[: 52 * 2], numbers(-1, {1: 5}) + numbers(2**28, {}))
-            self.assertEqual(table[52 * 2 :], [-9] * (52 * 2))
+            self.assertEqual(table[:written], numbers(-1, {1: 5}) + numbers(2**28, {}))
+            self.assertEqual(table[written:], [-9] * written)
             self.assertEqual(ranges, [-5, 4, 2**28, 2**28, -8, -8, -8, -8])
 
     def test_7_before_6(self):
@@ -1093,7 +1203,7 @@ class Evaluating(unittest.TestCase):
         self.assertEqual(last_row(1, [(-65536, 65536)], steps), (6, 5))
 
     def test_order_of_causes_where_rows_are_asked_for(self):
-        good, least = numbers(5, {2: 3}), [-(2**63)] * 52
+        good, least = numbers(5, {2: 3}), [-(2**63)] * rows.NUMBERS
         table, ranges = good + least + good + least, [2, 7, 3, 4, 8, 7, 9, 8]
         asked = evaluation.row_range
         self.assertEqual(asked(table, ranges, 4, 1), (0, 0, 2, 7))
@@ -1103,9 +1213,12 @@ class Evaluating(unittest.TestCase):
         self.assertEqual(asked(table, ranges, 4, 0), (9, 0, 0, 0))
         self.assertEqual(asked(table, ranges, 4, 5), (9, 0, 0, 0))
         self.assertEqual(asked(table, ranges, 5, 1), (8, 0, 0, 0))
-        self.assertEqual(asked(table, ranges, 31, 1), (9, 0, 0, 0))
+        most = evaluation.ROWS_LIMIT
+        self.assertEqual(asked(table, ranges, most, 1), (8, 0, 0, 0))
+        self.assertEqual(asked(table, ranges, most + 1, 1), (9, 0, 0, 0))
         self.assertEqual(asked([], [], 0, 0), (9, 0, 0, 0))
-        self.assertEqual(asked([], [], 31, 1), (9, 0, 0, 0))
+        self.assertEqual(asked([], [], most, 1), (8, 0, 0, 0))
+        self.assertEqual(asked([], [], most + 1, 1), (9, 0, 0, 0))
         self.assertEqual(asked(table[:-1], ranges, 4, 2), (8, 0, 0, 0))
         self.assertEqual(asked(table, ranges[:-1], 4, 2), (8, 0, 0, 0))
         self.assertEqual(asked(table, ranges[:-1], 3, 1), (0, 0, 2, 7))
@@ -1130,23 +1243,69 @@ class Evaluating(unittest.TestCase):
 
     def test_span_of_a_lent_row(self):
         for over in (0, 1):
-            row = numbers(-(2**30) + 52, {30: -1}, [-1] * 21)
-            row[2] = 30 + over
+            row = numbers(-(2**30) + rows.NUMBERS, {rows.SYMBOLS: -1}, [-1] * len(rows.PAIRS))
+            row[2] = rows.SYMBOLS + over
             self.assertEqual(evaluation.row_range(row, [0, 0], 1, 1).number, 6 if over else 0)
+
+
+# Faults that no sheet of 6 inputs and 24 steps shows.
+BEYOND_6_AND_24 = {
+    "the pairs of the last input left out", "the pair of the last two inputs left out",
+    "the symbols of the last rows left out",
+}
 
 
 class Samples(unittest.TestCase):
     """The answers of another implementation."""
 
     def test_listings(self):
-        """400 of 2026-06; 281 refusals and 57 listings of the requests before it."""
+        """400 of 2026-07, and 400 of 2026-06; 281 refusals and 57 listings of the requests before."""
         found = samples.listings()
         for sample in found:
             self.assertEqual(listing.listing(sample.sheet), sample.printed)
-        self.assertEqual(len(found), 738)
+        self.assertEqual(len(found), 1138)
+
+    def test_listings_within_6_inputs_and_24_steps(self):
+        """"Old sheets give their old listings." The sheets are of every size within these limits, and
+        some are refused in evaluation."""
+        found = samples.listings_within_6_and_24()
+        sizes, outcomes = collections.Counter(), collections.Counter()
+        for sample in found:
+            self.assertEqual(listing.listing(sample.sheet), sample.printed)
+            counts = sheet.read(sample.sheet).schedule.counts
+            self.assertTrue(1 <= counts.inputs <= 6 and 1 <= counts.steps <= 24)
+            sizes.update([("inputs", counts.inputs), ("squares", counts.squares), ("steps", counts.steps)])
+            refused = sample.printed.startswith(b"refused")
+            outcomes[int(sample.printed.split()[2]) if refused else 0] += 1
+        self.assertEqual(len(found), len({sample.sheet for sample in found}))
+        self.assertEqual(len(found), 3000)
+        self.assertEqual(len(sizes), 6 + 7 + 24)
+        self.assertGreater(min(sizes.values()), 40)
+        self.assertEqual(outcomes.keys(), {0, 6, 7, 12})
+        self.assertGreater(min(outcomes.values()), 250)
+
+    def test_the_listings_within_6_inputs_and_24_steps_tell_every_fault(self):
+        """But those of inputs and rows beyond."""
+        found = samples.listings_within_6_and_24()
+        faults = spoilt.UNSOUND | spoilt.OTHER_NUMBERS | spoilt.FAULTS_OF_RANGES
+        for name in faults.keys() - BEYOND_6_AND_24:
+            with self.subTest(name), spoilt.spoilt(name):
+                pairs = ((answer_of(listing.listing, s.sheet), s.printed) for s in found)
+                self.assertTrue(any(answered != printed for answered, printed in pairs))
+
+    def test_writings(self):
+        """150 of 2026-07."""
+        found = samples.writings()
+        for sample in found:
+            out = bytearray(samples.UNTOUCHED * sample.lent)
+            answer = sheet.write(sample.schedule, out)
+            self.assertEqual(answer, (*sample.refusal, sample.length), sample)
+            rest = samples.UNTOUCHED * (sample.lent - sample.length)
+            self.assertEqual(out, sample.written + rest, sample)
+        self.assertEqual(len(found), 150)
 
     def test_evaluations(self):
-        """150 of 2026-06; of the requests before it 196 that write nothing and 14 that write rows."""
+        """150 of 2026-07; of the requests before it 291 that write nothing."""
         found = samples.evaluations()
         for sample in found:
             tables = [[sample.fill] * length for length in sample.lengths]
@@ -1154,12 +1313,21 @@ class Samples(unittest.TestCase):
             self.assertEqual(answer, sample.refusal, sample)
             for table, length, written in zip(tables, sample.lengths, sample.written):
                 self.assertEqual(table, written + [sample.fill] * (length - len(written)))
-        self.assertEqual(len(found), 360)
+        self.assertEqual(len(found), 441)
 
     def test_ranges(self):
+        """150 of 2026-07; of the requests before it 78 refusals by 8 and 9."""
         found = samples.ranges()
         for sample in found:
             answer = evaluation.row_range(*sample[:4])
+            self.assertEqual(answer, sample.answer, sample)
+        self.assertEqual(len(found), 228)
+
+    def test_comparisons(self):
+        """150 of 2026-07."""
+        found = samples.comparisons()
+        for sample in found:
+            answer = evaluation.same_rows(*sample[:4])
             self.assertEqual(answer, sample.answer, sample)
         self.assertEqual(len(found), 150)
 
@@ -1174,7 +1342,7 @@ class Samples(unittest.TestCase):
 
     def test_no_call_is_of_another_kind(self):
         kinds = collections.Counter(made["call"] for made in samples.objects("calls.jsonl"))
-        self.assertEqual(kinds, {"evaluate": 360, "range": 150})
+        self.assertEqual(kinds, {"write": 150, "evaluate": 441, "range": 228, "compare": 150})
 
 
 def schedules_read(seed, count):
@@ -1223,7 +1391,7 @@ def sheets_of_odd_ends():
 
 class Demand3(unittest.TestCase):
     def test_holds_on_generated_sheets(self):
-        self.assertEqual(list(violated_clauses(schedules_read("demand 3", 2500))), [])
+        self.assertEqual(list(violated_clauses(schedules_read("demand 3", 1500))), [])
 
     def test_holds_within_ends_of_odd_sum(self):
         """At both ends, at the centre, one unit to either side of it, and between."""
@@ -1288,7 +1456,7 @@ class Demand3(unittest.TestCase):
         """Each clause is found violated in some unsound arithmetic; that of roots: `Roots`."""
         clauses = {demand3.EQUAL_EXACTLY_WHEN, demand3.FOUND, demand3.DIVISOR, demand3.RANGE}
         clauses |= {demand3.SAME, demand3.OWN_RANGE, demand3.PLAIN_RANGE, demand3.NEVER_EMPTY}
-        schedules = schedules_read("clauses", 1500)
+        schedules = schedules_read("clauses", 600)
         seen = set()
         for name in (
             "an input's own coefficient one smaller", "no dropped part", "a product's high end left out",
@@ -1346,9 +1514,26 @@ class LibraryCalls(unittest.TestCase):
                 self.assertLessEqual(call[2], library_calls.LIST_ROOM)
             if call[0] == library_calls.FORMULA:
                 self.assertLessEqual(len(call[1]), library_calls.FORMULA_ROOM)
-            with_bytes = call[0] in (library_calls.LIST, library_calls.FORMULA)
-            behind = len(call[1]) + 1 if with_bytes else 0
-            self.assertEqual(len(library_calls.encoded(call)), 17 * len(call) + behind)
+            if call[0] not in (library_calls.SCHEDULE, library_calls.INPUTS):
+                with_bytes = call[0] in (library_calls.LIST, library_calls.FORMULA)
+                behind = len(call[1]) + 1 if with_bytes else 0
+                self.assertEqual(len(library_calls.encoded(call)), 17 * len(call) + behind)
+
+    def test_schedules_can_be_taken_from_their_fields(self):
+        """As the program takes them: so many ends and so many steps, and 0 in the others."""
+        for call in library_calls.calls():
+            if call[0] not in (library_calls.SCHEDULE, library_calls.INPUTS):
+                continue
+            fields = [int(field, 16) for field in library_calls.encoded(call).split()]
+            taken = iter([field - 2**64 if field >= 2**63 else field for field in fields])
+            has_steps = next(taken) == library_calls.SCHEDULE
+            numbers = [next(taken) for _ in range(3 if has_steps else 2)]
+            for width, room in ((2, sheet.INPUTS_LIMIT), (4, sheet.STEPS_LIMIT))[: 1 + has_steps]:
+                count = next(taken)
+                self.assertLessEqual(count, room)
+                numbers += [next(taken) for _ in range(width * count)] + [0] * (width * (room - count))
+            self.assertEqual([*taken], [])
+            self.assertEqual(tuple(numbers), tuple(call[1:]))
 
     def test_every_number_occurs(self):
         lines = library_calls.expected(library_calls.calls()).split(b"\n")
@@ -1382,10 +1567,10 @@ class LibraryCalls(unittest.TestCase):
         self.assert_told(formulas, spoilt.OTHER_FORMULAS)
 
     def assert_told(self, calls, names):
-        expected = library_calls.expected(calls)
+        expected = list(library_calls.printed(calls))
         for name in names:
             with self.subTest(name), spoilt.spoilt(name):
-                self.assertFalse(answer_of(library_calls.expected, calls) == expected)
+                self.assertFalse(answer_of(lambda made: alike(library_calls.printed(made), expected), calls))
 
     def test_the_samples_of_formulas_are_among_the_calls(self):
         block, made = None, set()
@@ -1397,15 +1582,21 @@ class LibraryCalls(unittest.TestCase):
         for inputs, squares, ends, text in formula_cases.samples():
             self.assertIn((inputs, squares, *itertools.chain(*ends), text), made)
 
-    def test_the_samples_of_evaluations_and_ranges_are_among_the_calls(self):
-        """What the library prints for these calls is what the samples answer."""
+    def test_the_samples_of_calls_are_among_the_calls(self):
+        """What the library prints for these calls is what the samples answer; lent bytes are there
+        others before."""
         lines = []
+        for sample in samples.writings():
+            lines.append(("write", *sample.refusal, sample.length))
+            lines += [(sample.written.decode(),), ("left", sample.lent - sample.length)]
         for sample in samples.evaluations():
             lines.append(("evaluate", *sample.refusal))
             for word, written, length in zip(("table", "ranges"), sample.written, sample.lengths):
                 whole = written + [sample.fill] * (length - len(written))
                 lines.append((word, *library_calls.runs(whole)))
-        lines += [("range", *sample.answer) for sample in samples.ranges()]
+        for sample in library_calls.questions():
+            word = "range" if isinstance(sample, samples.Range) else "same"
+            lines.append((word, *map(int, sample.answer)))
         expected = "".join(" ".join(map(str, line)) + "\n" for line in lines).encode()
         self.assertIn(expected, library_calls.expected(library_calls.calls()))
 
@@ -1438,13 +1629,12 @@ class Comparison(unittest.TestCase):
     def test_a_wrong_program_fails(self):
         """/bin/cat prints the sheet, which no answer is."""
         program = pathlib.Path(__file__).with_name("compare.py")
-        ended = subprocess.run(
-            [sys.executable, program, "/bin/cat", "--seed", "1", "--count", "40"],
-            capture_output=True,
-        )
-        self.assertEqual(ended.returncode, 1)
-        self.assertEqual(ended.stdout.split(b"\n")[-2], b"0 passed, 40 failed")
-        self.assertIn(b"inputs squares steps", ended.stdout)
+        stored_count = len(samples.listings()) + len(samples.listings_within_6_and_24())
+        for options, count in ((["--seed", "1", "--count", "40"], 40), (["--stored"], stored_count)):
+            ended = subprocess.run([sys.executable, program, "/bin/cat", *options], capture_output=True)
+            self.assertEqual(ended.returncode, 1)
+            self.assertEqual(ended.stdout.split(b"\n")[-2], b"0 passed, %d failed" % count)
+            self.assertIn(b"inputs squares steps", ended.stdout)
 
 
 def main() -> int:

@@ -5,6 +5,7 @@ A wrong call prints nothing on standard output and how to call it on standard er
 sheet that is printed is handed to ranges. The last line is `N passed, M failed`.
 """
 
+import itertools
 import pathlib
 import subprocess
 import sys
@@ -15,11 +16,15 @@ sys.path.insert(0, str(ROOT / "checker"))
 import formula_cases
 import formula_program
 import listing
+import sheet
 
 FORMULA = ROOT / "target/bin/formula"
 RANGES = ROOT / "target/bin/ranges"
 HOW_TO_CALL = b"call: formula FORMULA SQUARES LOW HIGH LOW HIGH ..., as formula '(a+8192)*b' 2 -512 512 4096 8192\n"
 CANNOT_WRITE = b"formula: cannot write the sheet: No space left on device\n"
+
+# The most inputs, and one more.
+MOST, BEYOND = sheet.INPUTS_LIMIT, sheet.INPUTS_LIMIT + 1
 
 PLAIN = [b"1", b"4096", b"8192", b"-512", b"512"]
 NOT_NUMBERS = [
@@ -34,25 +39,29 @@ def wrong_calls():
     yield []
     for formula in (b"", b"a+1", b"?", b"0"):
         yield [formula]
-        for count in (2, 4, 6, 12, 14, 16, 200):
+        for count in (2, 4, 6, 2 * MOST, 2 * BEYOND, 2 * BEYOND + 2, 200):
             yield [formula, b"0", *[b"0"] * (count - 1)]
     for word in NOT_NUMBERS:
         for place in range(1, 6):
             yield [*[b"a+b", *PLAIN][:place], word, *[b"a+b", *PLAIN][place + 1 :]]
-        yield [b"a+1", b"0", *[b"0", b"1"] * 7, b"0", word]
+        yield [b"a+1", b"0", *[b"0", b"1"] * BEYOND, b"0", word]
         yield [b"a+1", word]
 
 
 def refusals():
-    """3 for no inputs and for more than six, 4 at each input, 10, 5 and 11 behind them."""
+    """3 for no inputs and for more than the most, 4 at each input, 10, 5 and 11 behind them."""
     for formula in (b"", b"a+1", b"a", b"268435457", b"?"):
-        for pairs in (0, 1, 6, 7, 8, 100, 5000):
-            for squares in (b"-1", b"0", b"1", b"6", b"7"):
+        for pairs in (0, 1, MOST - 1, MOST, BEYOND, BEYOND + 1, 100, 5000):
+            for squares in (b"-1", b"0", b"1", b"%d" % MOST, b"%d" % BEYOND):
                 yield [formula, squares, *[b"0", b"1"] * pairs]
         for word in NUMBERS:
             yield [formula, word, b"0", b"1"]
             for place in range(2, 6):
                 yield [*[formula, *PLAIN][:place], word, *[formula, *PLAIN][place + 1 :]]
+        for place in range(MOST):
+            ends = [[b"0", b"1"]] * MOST
+            ends[place] = [b"1", b"0"]
+            yield [formula, b"0", *itertools.chain(*ends)]
 
 
 def long_formulas():
@@ -69,7 +78,8 @@ def long_formulas():
 def formulas():
     """Formulas of the library's cases, with their own inputs; no argument holds a byte 0."""
     groups = [formula_cases.samples(), formula_cases.short_formulas(), formula_cases.deep_formulas(), formula_cases.literal_formulas()]
-    groups += [formula_cases.counted_formulas(), formula_cases.any_formulas("program", 20, 20)]
+    groups += [formula_cases.letters_of_inputs(), formula_cases.all_letters(), formula_cases.counted_formulas()]
+    groups += [formula_cases.any_formulas("program", 20, 20)]
     for group in groups:
         for inputs, squares, ends, text in group:
             within = [b"%d" % number for end in ends[: max(inputs, 0)] for number in end]

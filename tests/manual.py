@@ -8,8 +8,8 @@ Fenced blocks, by the words behind the fence:
     KIND PATH     each paragraph of the block stands in the file, in one piece
 
 A block of another kind fails, as does a command that is neither run nor among NOT_RUN. Also tested: the sums and commands in
-code spans, the paths there, the numbers of the sections and who refers to them, and the tables that TABLES names. What is
-expected is what the documents say; numbers that no command prints come from the checker. The programs are those that
+code spans, the paths there, the numbers of the sections and who refers to them, the tables that TABLES names, and the limits
+that sentences repeat, as REPEATED has them. What is expected is what the documents say; numbers that no command prints come from the checker. The programs are those that
 `tools/build` built. The last line is `N passed, M failed`.
 """
 
@@ -312,7 +312,7 @@ def check_lent(row, centre, first, second, places, low, high) -> None:
 
 
 def check_pairs(pairs, places) -> None:
-    """`(1,1) to (1,6)` stand at `31 to 36`."""
+    """The pairs of a first symbol, shown as `(2,2) to (2,8)`, stand at numbers that are shown as `57 to 63`."""
     first, last = (tuple(map(int, pair.strip("()").split(","))) for pair in pairs.split(" to "))
     among = [place for pair, place in rows.PAIR_PLACE.items() if first <= pair <= last]
     expect(f"{MANUAL}: pairs {pairs}", [int(place) for place in places.split(" to ")], [among[0], among[-1]])
@@ -346,8 +346,8 @@ SIZES = {
     "rows": lambda: evaluation.ROWS_LIMIT,
     "numbers of a row in the first table": lambda: rows.NUMBERS,
     "numbers of a row in the second table": lambda: listing.RANGES_LENGTH // evaluation.ROWS_LIMIT,
-    "numbers of the first table for 30 rows": lambda: listing.TABLE_LENGTH,
-    "numbers of the second table for 30 rows": lambda: listing.RANGES_LENGTH,
+    f"numbers of the first table for {evaluation.ROWS_LIMIT} rows": lambda: listing.TABLE_LENGTH,
+    f"numbers of the second table for {evaluation.ROWS_LIMIT} rows": lambda: listing.RANGES_LENGTH,
     "bytes of that first table": lambda: 8 * listing.TABLE_LENGTH,
     "bytes of that second table": lambda: 8 * listing.RANGES_LENGTH,
     "bytes of a schedule": lambda: 8 * (3 + 2 * sheet.INPUTS_LIMIT + 4 * sheet.STEPS_LIMIT),
@@ -364,6 +364,49 @@ SIZES = {
 
 def check_size(what, shown) -> None:
     expect(f"{MANUAL}: {what}", number(shown), SIZES[what]() if what in SIZES else "not among SIZES")
+
+
+PLACES = {
+    "the centre": ["0"],
+    f"the linear coefficients of noise symbols 1 to {rows.SYMBOLS}": [f"1 to {rows.SYMBOLS}"],
+    "the pair coefficients": [f"{1 + rows.SYMBOLS} to {rows.NUMBERS - 1}"],
+}
+
+
+def check_places(places, holds) -> None:
+    expect(f"{MANUAL}: the numbers of {holds}", [places], PLACES.get(holds))
+
+
+# What stands around a limit that a sentence repeats, and which limit it is.
+REPEATED = [
+    (r"up to (\S+) quantities", sheet.INPUTS_LIMIT),
+    (r"for inputs 1 to (\S+): as many letters", sheet.INPUTS_LIMIT),
+    (r"`MAX_INPUTS` is (\S+) and", sheet.INPUTS_LIMIT),
+    (r"up to (\S+) steps of arithmetic", sheet.STEPS_LIMIT),
+    (r"makes 1 to (\S+) steps", sheet.STEPS_LIMIT),
+    (r"no step, or more than (\S+) ", sheet.STEPS_LIMIT),
+    (r"`MAX_STEPS` is (\S+)\. ", sheet.STEPS_LIMIT),
+    (r"count is above (\S+) ", evaluation.ROWS_LIMIT),
+    (r"a count of at most (\S+)\. ", evaluation.ROWS_LIMIT),
+    (r"the tables hold, at most (\S+), ", evaluation.ROWS_LIMIT),
+    (r"with (\S+) numbers for each row", rows.NUMBERS),
+    (r"with (\S+) numbers in the first", rows.NUMBERS),
+    (r"from number (\S+) × \(r - 1\) of the first table", rows.NUMBERS),
+    (r"a first table of (\S+) zeros", listing.TABLE_LENGTH),
+    (r"`TABLE_NUMBERS` is (\S+) ", listing.TABLE_LENGTH),
+    (r"a second one of (\S+); ", listing.RANGES_LENGTH),
+    (r"`RANGES_NUMBERS` is (\S+): ", listing.RANGES_LENGTH),
+    (r"the longest that is accepted has (\S+) bytes", len(sheet.text(sheet_cases.LARGEST))),
+    (r"bytes for the sheet; (\S+) hold any", len(sheet.text(sheet_cases.LARGEST))),
+    (r"\| `a` to `(\S+)`, for inputs", formula.LETTERS[-1:].decode()),
+]
+
+
+def check_repeated(text: str) -> None:
+    """Each limit that the sentences of the documents repeat is shown, and as it is."""
+    for around, limit in REPEATED:
+        shown = re.findall(around, text)
+        expect(f"limits: {around}", shown, [f"{limit:,}" if isinstance(limit, int) else limit] * max(1, len(shown)))
 
 
 def check_drift(sheets_of, *shown) -> None:
@@ -435,13 +478,23 @@ def check_formula_row(row, part, step) -> None:
     expect(f"{MANUAL}: row {row} of the formula", step.strip("`"), " ".join(map(str, made)))
 
 
+def check_letter(letter, what, *known) -> None:
+    """What is known of an input of `hours.formula` makes its ends: low rounded down, high rounded up."""
+    words = (ROOT / "examples/hours.formula").read_text().split()[2:]
+    place = 2 * (ord(letter.strip("`")) - ord("a"))
+    low, high = (Fraction(text) * rows.UNIT for text in known)
+    expect(f"{MANUAL}: the ends of {what}", [math.floor(low), math.ceil(high)], [*map(int, words[place : place + 2])])
+
+
 TABLES = [
     (MANUAL, "| example | squares | ends | steps | shown | centre | symbol 1 | pair (1,1) | own | own range | low | high |", check_example, 27),
     (MANUAL, "| row | its centre | its symbol 1 | its symbol 2 | numbers of the second table | low | high |", check_lent, 3),
     (MANUAL, "| field | from | to |", check_field, len(FIELDS)),
-    (MANUAL, "| pairs | numbers |", check_pairs, 6),
+    (MANUAL, "| number of the row, from 0 | holds |", check_places, len(PLACES)),
+    (MANUAL, "| pairs | numbers |", check_pairs, sheet.INPUTS_LIMIT),
     (MANUAL, "| what | how much |", check_size, len(SIZES)),
     (MANUAL, "| row | is the part | step |", check_formula_row, 5),
+    (MANUAL, "| letter | input | from | to |", check_letter, sheet.INPUTS_LIMIT),
     (
         MANUAL,
         "| sheets of multiplies | sheets | mean error, down | mean error, nearest | mean own width, down | mean own width, nearest "
@@ -477,6 +530,7 @@ def main() -> int:
         check_blocks(document, blocks)
         check_plain(document, prose)
         sums += check_spans(document, prose, run)
+    check_repeated(" ".join(line for _, prose in parts.values() for line in prose))
     references = check_references(check_sections(parts[MANUAL][1]))
     for document, *rest in TABLES:
         check_table(parts[document][1], document, *rest)

@@ -1,9 +1,7 @@
 //! Evaluation into a table of rows and a table of their answered ranges.
 use crate::intervals;
-use crate::rows::{self, Answer, Range, Row};
+use crate::rows::{self, Answer, Range, Row, ROWS_LIMIT};
 use crate::sheet::{Refusal, Schedule};
-
-const ROWS_LIMIT: usize = 30;
 
 pub fn evaluate(schedule: &Schedule, table: &mut [Row], ranges: &mut [Range]) -> Result<(), Refusal> {
     schedule.test()?;

@@ -63,7 +63,7 @@ impl Reader<'_> {
         match self.here() {
             Some(b'0'..=b'9') => Ok(self.literal()),
             Some(b'(') if depth > 0 => self.bracket(depth - 1),
-            Some(letter @ b'a'..=b'f') if usize::from(letter - b'a') < self.schedule.inputs => {
+            Some(letter @ b'a'..=b'z') if usize::from(letter - b'a') < self.schedule.inputs => {
                 self.at += 1;
                 Ok(usize::from(letter - b'a') + 1)
             }
@@ -113,7 +113,7 @@ fn inputs(squares: i64, ends: &[End]) -> Result<Schedule, Refusal> {
     if let Some(i) = ends.iter().position(|end| !sheet::end_passes(end.low, end.high)) {
         return Err(Refusal { number: 4, place: 4 + i });
     }
-    let mut schedule = Schedule { inputs: ends.len(), squares: squares as usize, ..Schedule::default() };
+    let mut schedule = Schedule { inputs: ends.len(), squares: squares as usize, ..Schedule::ZERO };
     schedule.ends[..ends.len()].copy_from_slice(ends);
     Ok(schedule)
 }

@@ -6,7 +6,7 @@ mod intervals;
 mod rows;
 mod sheet;
 
-use rows::{Range, Row};
+use rows::{Range, Row, ROWS_LIMIT};
 use sheet::Refusal;
 use std::io::Read;
 
@@ -14,8 +14,8 @@ fn run(input: &[u8]) -> Result<String, Refusal> {
     let line = input.iter().position(|&b| b == b'\n').unwrap_or(input.len());
     let times: u64 = std::str::from_utf8(&input[..line]).ok().and_then(|s| s.parse().ok()).unwrap_or(0);
     let schedule = sheet::read(input.get(line + 1..).unwrap_or(&[]))?;
-    let mut table = [Row::ZERO; 30];
-    let mut ranges = [Range::ZERO; 30];
+    let mut table = [Row::ZERO; ROWS_LIMIT];
+    let mut ranges = [Range::ZERO; ROWS_LIMIT];
     let mut answer = Ok(());
     for _ in 0..times {
         answer = evaluation::evaluate(std::hint::black_box(&schedule), &mut table, &mut ranges);

@@ -1,20 +1,36 @@
 //! Rows: affine forms with square terms, in whole numbers of 1/4096.
-const SYMBOLS: usize = 30;
-const PAIRS: usize = 21;
+use crate::sheet::{INPUTS_LIMIT, STEPS_LIMIT};
+
+pub const ROWS_LIMIT: usize = INPUTS_LIMIT + STEPS_LIMIT;
+/// Each row owns a symbol.
+const SYMBOLS: usize = ROWS_LIMIT;
+const PAIRS: usize = INPUTS_LIMIT * (INPUTS_LIMIT + 1) / 2;
 const SPAN_LIMIT: u64 = 1 << 30;
 pub const N: i64 = 4096 * 4096;
 
-const ORDER: [(usize, usize); PAIRS] = [
-    (0, 0), (0, 1), (0, 2), (0, 3), (0, 4), (0, 5),
-    (1, 1), (1, 2), (1, 3), (1, 4), (1, 5),
-    (2, 2), (2, 3), (2, 4), (2, 5),
-    (3, 3), (3, 4), (3, 5),
-    (4, 4), (4, 5),
-    (5, 5),
-];
+/// The pairs of inputs: of the first with each, of the second with each from itself on, and so on.
+const ORDER: [(usize, usize); PAIRS] = {
+    let mut order = [(0, 0); PAIRS];
+    let (mut i, mut j) = (0, 0);
+    let mut k = 0;
+    while k < PAIRS {
+        order[k] = (i, j);
+        (i, j) = if j + 1 < INPUTS_LIMIT { (i, j + 1) } else { (i + 1, i + 1) };
+        k += 1;
+    }
+    order
+};
 
 /// Where the pairs (i,i) stand in this order.
-const SQUARES: [usize; 6] = [0, 6, 11, 15, 18, 20];
+const SQUARES: [usize; INPUTS_LIMIT] = {
+    let mut squares = [0; INPUTS_LIMIT];
+    let mut i = 1;
+    while i < INPUTS_LIMIT {
+        squares[i] = squares[i - 1] + INPUTS_LIMIT - (i - 1);
+        i += 1;
+    }
+    squares
+};
 
 #[derive(Clone, Copy, PartialEq)]
 pub struct Row {

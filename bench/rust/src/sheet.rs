@@ -1,4 +1,7 @@
 //! Schedule sheets: reading, and the tests 3, 4 and 5.
+pub const INPUTS_LIMIT: usize = 8;
+pub const STEPS_LIMIT: usize = 40;
+pub const BYTES_LIMIT: usize = 1024;
 pub const END_LIMIT: i64 = 268_435_456;
 
 pub struct Refusal {
@@ -6,13 +9,17 @@ pub struct Refusal {
     pub place: usize,
 }
 
-#[derive(Clone, Copy, Default)]
+#[derive(Clone, Copy)]
 pub struct End {
     pub low: i64,
     pub high: i64,
 }
 
-#[derive(Clone, Copy, Default)]
+impl End {
+    const ZERO: End = End { low: 0, high: 0 };
+}
+
+#[derive(Clone, Copy)]
 pub struct Step {
     pub code: i64,
     pub first: usize,
@@ -20,17 +27,20 @@ pub struct Step {
     pub value: i64,
 }
 
-#[derive(Default)]
+impl Step {
+    const ZERO: Step = Step { code: 0, first: 0, second: 0, value: 0 };
+}
+
 pub struct Schedule {
     pub inputs: usize,
     pub squares: usize,
     pub steps: usize,
-    pub ends: [End; 6],
-    pub step: [Step; 24],
+    pub ends: [End; INPUTS_LIMIT],
+    pub step: [Step; STEPS_LIMIT],
 }
 
 pub fn counts_pass(inputs: i64, squares: i64, steps: i64) -> bool {
-    (1..=6).contains(&inputs) && (0..=inputs).contains(&squares) && (1..=24).contains(&steps)
+    (1..=INPUTS_LIMIT as i64).contains(&inputs) && (0..=inputs).contains(&squares) && (1..=STEPS_LIMIT as i64).contains(&steps)
 }
 
 fn within_limit(z: i64) -> bool {
@@ -52,6 +62,8 @@ fn step_passes(earlier: usize, code: i64, first: i64, second: i64, value: i64) -
 }
 
 impl Schedule {
+    pub const ZERO: Schedule = Schedule { inputs: 0, squares: 0, steps: 0, ends: [End::ZERO; INPUTS_LIMIT], step: [Step::ZERO; STEPS_LIMIT] };
+
     /// Tests 3, 4 and 5, as the lines would stand.
     pub fn test(&self) -> Result<(), Refusal> {
         if !counts_pass(self.inputs as i64, self.squares as i64, self.steps as i64) {
@@ -121,11 +133,11 @@ pub fn number(field: &[u8]) -> Option<i64> {
 }
 
 pub fn read(bytes: &[u8]) -> Result<Schedule, Refusal> {
-    if bytes.len() > 1024 {
+    if bytes.len() > BYTES_LIMIT {
         return Err(Refusal { number: 1, place: 0 });
     }
     let mut lines = Lines { rest: bytes, taken: 0 };
-    let mut schedule = Schedule::default();
+    let mut schedule = Schedule::ZERO;
     lines.names(b"inputs squares steps")?;
     let [inputs, squares, steps] = lines.numbers()?;
     if !counts_pass(inputs, squares, steps) {

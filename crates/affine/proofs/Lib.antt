@@ -40,6 +40,7 @@ pub mod FormBounds
 pub mod RangeLaws
 pub mod Enclosure
 pub mod Support
+pub mod Fronts
 pub mod StepLaws
 pub mod WellFormed
 pub mod RootEnclosure

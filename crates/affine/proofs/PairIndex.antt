@@ -9,7 +9,8 @@ use lib.Seq.{get_or-append-add}
 use Rattle.affine.specs.Lists.{tabulate}
 use Rattle.affine.specs.PairOrder.{over_pairs, firsts, seconds}
 use Rattle.affine.proofs.Lists.{length_tabulate, get_or_tabulate}
-use Rattle.affine.proofs.PairOrder.{pair_count, get_or_over_pairs}
+use Rattle.affine.specs.Limits.{pair_count}
+use Rattle.affine.proofs.PairOrder.{get_or_over_pairs}
 
 -- the index of the pair of symbols i and j, i not after j, among the pairs of n symbols
 pub index_in : ℕ → ℕ → ℕ → ℕ

@@ -9,14 +9,10 @@ use native.Mathlib.Omega.{arith}
 use borrow.Author.Tests.{leb-true, le-leb}
 use lib.Dec.{leb}
 use lib.ListN.{length, get_or, length-append}
+use Rattle.affine.specs.Limits.{pair_count}
 use Rattle.affine.specs.Lists.{tabulate}
 use Rattle.affine.specs.PairOrder.{over_pairs, firsts, seconds}
 use Rattle.affine.proofs.Lists.{length_tabulate, map_tabulate}
-
--- the number of pairs of n symbols
-abbrev pub pair_count : ℕ → ℕ
-pair_count zero = 0
-pair_count (suc n) = suc (n + pair_count n)
 
 pub length_over_pairs : {A : Type 0} (n : ℕ) (f : ℕ → ℕ → A) → length (over_pairs n f) ≡ pair_count n
 unfolding over_pairs

@@ -19,12 +19,11 @@ use mir.Val.{SFits, to_z, of_z}
 use mir.ValLaws.{to_z-of_z}
 use Rattle.integer.proofs.Absolute.{nat_abs_add, nat_abs_sub, nat_abs_sub_within, fits_within}
 use Rattle.affine.specs.declared.Row.{Row}
-use Rattle.affine.specs.Limits.{pairs, span_limit}
+use Rattle.affine.specs.Limits.{pairs, pair_count, span_limit}
 use Rattle.affine.specs.Lists.{pick, at, tabulate, sum}
 use Rattle.affine.specs.PairOrder.{over_pairs, firsts, seconds, is_square}
 use Rattle.affine.specs.Row.{pair_below, pair_above, pairs_below, pairs_above, span, low, high}
 use Rattle.affine.specs.Measured.{square_reach, squares_from, squares_reach}
-use Rattle.affine.proofs.PairOrder.{pair_count}
 use Rattle.affine.proofs.SumLaws.{sum_tabulate_add, sum_tabulate_absolutes}
 use Rattle.affine.proofs.RowSize.{span_is_sum}
 

@@ -1,17 +1,23 @@
 -- The limits and units of "A row" (manual, section 5), each named once. The code's constants of the same names stand in src/limits.rt.
-use Rattle.std.specs.Prelude.{ℕ}
+use Rattle.std.specs.Prelude.{ℕ, zero, suc, ◌+◌}
+use Rattle.capacity.specs.Limits.{max_inputs, max_rows}
 
--- "30 linear coefficients, for noise symbols 1 to 30"
+-- "Every step owns a symbol", and so does every input: "48 linear"
 abbrev pub symbols : ℕ
-symbols = 30
+symbols = max_rows
 
--- "symbol pairs (1,1), (1,2) to (1,6), (2,2) and so on to (6,6)": the symbols that stand in pairs, one for each input
+-- "Pairs are used only among the first "squares" inputs": the symbols that stand in pairs, one for each input
 abbrev pub paired : ℕ
-paired = 6
+paired = max_inputs
 
--- "21 pair coefficients"
+-- the number of pairs of n symbols: those of the first, with itself and with each later one, and those of the later symbols
+abbrev pub pair_count : ℕ → ℕ
+pair_count zero = 0
+pair_count (suc n) = suc (n + pair_count n)
+
+-- "36 pairs in the same manner"
 abbrev pub pairs : ℕ
-pairs = 21
+pairs = pair_count paired
 
 -- "All quantities are whole numbers of one unit, 1/4096."
 abbrev pub unit : ℕ

@@ -1,4 +1,4 @@
--- The order of the pairs of a row: "(1,1), (1,2) to (1,6), (2,2) and so on to (6,6)". Symbols are counted from 0 here.
+-- The order of the pairs of a row: "(1,1), (1,2) to .., (2,2) and so on", to the last symbol with itself. Symbols are counted from 0 here.
 use Rattle.std.specs.Prelude.{Bool, List, [], ◌∷◌, ◌++◌, ℕ, zero, suc, eqb, ltb, ℤ, pos, get_or}
 use Rattle.affine.specs.Limits.{paired, pairs}
 use Rattle.affine.specs.Lists.{pick, tabulate}

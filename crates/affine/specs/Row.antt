@@ -7,7 +7,7 @@ use Rattle.affine.specs.Limits.{pairs, span_limit}
 use Rattle.affine.specs.Lists.{pick, at, tabulate, sum, equal}
 use Rattle.affine.specs.PairOrder.{is_square}
 
--- "A row is 52 whole numbers: the centre; 30 linear coefficients, for noise symbols 1 to 30; 21 pair coefficients"
+-- "a row has 85 numbers: centre, 48 linear, 36 pairs in the same manner"; linear coefficients are "for noise symbols 1 to .."
 abbrev pub numbers : Row → List ℤ
 numbers r = r.centre ∷ (r.linear ++ r.pair)
 
@@ -15,7 +15,7 @@ numbers r = r.centre ∷ (r.linear ++ r.pair)
 abbrev pub row_of_parts : ℤ → List ℤ → List ℤ → Row
 row_of_parts c l p = record { centre = c; linear = l; pair = p }
 
--- "Span: the sum of the absolute values of all 52 numbers." (The field's term: the sum of the centre's magnitude and the radius.)
+-- "Span: the sum of the absolute values of all .. numbers." (The field's term: the sum of the centre's magnitude and the radius.)
 unfoldable pub span : Row → ℕ
 span r = sum_abs (numbers r)
 

@@ -1,8 +1,8 @@
 // The span test of a row, its radius, and the range of its form, from its centre and its coefficients.
 ghost use Rattle.std.specs.Prelude.{true, false, ◌≡◌, ◌+◌, ◌-◌, ◌^◌, ◌≤◌, ◌<◌, pos, nat_abs, ◌+ℤ◌, ◌-ℤ◌, length};
 ghost use Rattle.integer.specs.Sum.{sum_abs};
-ghost use Rattle.affine.specs.Limits.{pairs, span_limit};
-ghost use Rattle.affine.specs.Row.{span, pairs_below, pairs_above};
+ghost use Rattle.affine.specs.Limits.{symbols, pairs, span_limit};
+ghost use Rattle.affine.specs.Row.{span, pairs_below, pairs_above, NoneFrom};
 ghost use Rattle.affine.specs.Measured.{square_reach, squares_reach, measured};
 
 use crate::limits::{PAIRED, PAIRS, SPAN_LIMIT};
@@ -64,13 +64,15 @@ pub(crate) struct Size {
     pub range: Range,
 }
 
-// The span test of a row whose span does not wrap: one sum of the absolute values serves the test, the radius and the range.
+// The span test of a row that has coefficients of the first symbols alone, so many, and whose span does not wrap: one sum of the absolute values serves the
+// test, the radius and the range.
 #[inline(never)]
-pub(crate) fn measure(row: &Row) -> Option<Size>
-    requires { span row.now < 2 ^ 64 }
+pub(crate) fn measure(row: &Row, count: usize) -> Option<Size>
+    requires none { (count ≤ symbols) × NoneFrom count row.now.linear }
+    requires small { span row.now < 2 ^ 64 }
     ensures { result ≡ measured row.now }
 {
-    let radius = absolutes(&row.linear) + absolutes(&row.pair);
+    let radius = absolutes(&row.linear[..count]) + absolutes(&row.pair);
     if row.centre.unsigned_abs() + radius <= SPAN_LIMIT {
         Some(Size {
             radius,

@@ -1,9 +1,11 @@
 // The limits and units of a row (manual, section 5); specs/Limits.antt states each of them.
-pub const SYMBOLS: usize = 30;
+use capacity::{MAX_INPUTS, MAX_ROWS};
 
-pub const PAIRED: usize = 6;
+pub const SYMBOLS: usize = MAX_ROWS;
 
-pub const PAIRS: usize = 21;
+pub const PAIRED: usize = MAX_INPUTS;
+
+pub const PAIRS: usize = PAIRED * (PAIRED + 1) / 2;
 
 pub const UNIT: u64 = 4096;
 

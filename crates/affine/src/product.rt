@@ -132,5 +132,5 @@ pub fn multiply(x: Operand, y: Operand, symbols: Symbols) -> Result<Made, NoRow>
     );
     let dropped = dropped_part(&a.linear, x.radius, &b.linear, y.radius, symbols.squares);
     let error = dropped + centre.rest + linear + pair;
-    check_with_own(row, symbols.own, ceiling_quotient(error, UNIT))
+    check_with_own(&mut row, symbols.own, ceiling_quotient(error, UNIT))
 }

@@ -131,10 +131,10 @@ fn reciprocal_apart(x: &Operand, distance: u64, symbols: Symbols) -> Result<Made
     requires outweighs { (0 < nat_abs x.now.row.centre) × (sum_abs x.now.row.linear ≤ nat_abs x.now.row.centre) }
     ensures { answer_of result ≡ reciprocal_apart symbols.squares symbols.own x.now.row distance }
 {
-    let z = candidate(&x.row, symbols);
-    let size = measure(&z).ok_or(NoRow::SpanPassed)?;
+    let mut z = candidate(&x.row, symbols);
+    let size = measure(&z, symbols.own).ok_or(NoRow::SpanPassed)?;
     let bound = error_bound(x, &z, size.radius, symbols);
-    check_with_own(z, symbols.own, ceiling_quotient(bound, distance))
+    check_with_own(&mut z, symbols.own, ceiling_quotient(bound, distance))
 }
 
 // The reciprocal of a row with its own range.

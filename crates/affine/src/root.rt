@@ -135,14 +135,14 @@ fn root_from(x: &Row, least: i64, symbols: Symbols) -> Result<Made, NoRow>
     requires least { (pos 1 ≤ℤ least) × (least ≤ℤ x.now.centre) }
     ensures { answer_of result ≡ root_from symbols.squares symbols.own x.now least }
 {
-    let z = root_candidate(x, symbols.own);
-    let size = measure(&z).ok_or(NoRow::SpanPassed)?;
+    let mut z = root_candidate(x, symbols.own);
+    let size = measure(&z, symbols.own).ok_or(NoRow::SpanPassed)?;
     if size.range.low < 0 {
         return Err(NoRow::NoRoot);
     }
     let bound = square_error(x, &z, size.radius, symbols);
     let own = ceiling_quotient(bound, unit_root(least)) + 1;
-    check_with_own(z, symbols.own, own)
+    check_with_own(&mut z, symbols.own, own)
 }
 
 // The root of a row with its own range.

@@ -1,7 +1,7 @@
 // The rows of inputs, constants, sums and differences.
 ghost use Rattle.std.specs.Prelude.{ℤ, ◌≡◌, ◌+◌, ◌^◌, ◌≤◌, ◌<◌, pos, nat_abs, ◌+ℤ◌, ◌-ℤ◌};
 ghost use Rattle.affine.specs.Limits.{symbols, span_limit};
-ghost use Rattle.affine.specs.Row.{span};
+ghost use Rattle.affine.specs.Row.{span, NoneFrom};
 ghost use Rattle.affine.specs.Steps.{constant_row, with_own, add_rows, subtract_rows, zip_rows, checked, input_answer};
 ghost use Rattle.affine.specs.Told.{answer_of};
 
@@ -20,37 +20,39 @@ pub fn constant_row(v: i64) -> Row
     }
 }
 
-// A row and the range of its form as the answer, or the refusal where its span is passed.
+// A row that has coefficients of the first symbols alone, so many, and the range of its form as the answer, or the refusal where its span is passed.
 #[inline]
-pub fn check(row: Row) -> Result<Made, NoRow>
-    requires { span row < 2 ^ 64 }
-    ensures { answer_of result ≡ checked row }
+pub fn check(row: &Row, count: usize) -> Result<Made, NoRow>
+    requires none { (count ≤ symbols) × NoneFrom count row.now.linear }
+    requires small { span row.now < 2 ^ 64 }
+    ensures { answer_of result ≡ checked row.now }
 {
-    let size = measure(&row).ok_or(NoRow::SpanPassed)?;
+    let size = measure(row, count).ok_or(NoRow::SpanPassed)?;
     Ok(Made {
-        row,
+        row: *row,
         radius: size.radius,
         range: size.range,
     })
 }
 
-// A row with its own coefficient as the answer, by its span.
+// Puts the own coefficient into a lent row, which has none from its own symbol on, and answers that row by its span.
 #[inline]
-#[tactic(auto, using(crate::proofs::SpanSize::span_own))]
-pub(crate) fn check_with_own(row: Row, own: usize, coefficient: u64) -> Result<Made, NoRow>
-    requires { (own < symbols) × (span row + coefficient < 2 ^ 63) }
-    ensures { answer_of result ≡ checked (with_own own (pos coefficient) row) }
+#[tactic(auto, using(crate::proofs::SpanSize::span_own, crate::proofs::Fronts::none_behind_own))]
+pub(crate) fn check_with_own(row: &mut Row, own: usize, coefficient: u64) -> Result<Made, NoRow>
+    requires none { (own < symbols) × NoneFrom own row.old.linear }
+    requires small { span row.old + coefficient < 2 ^ 63 }
+    ensures answer { answer_of result ≡ checked (with_own own (pos coefficient) row.old) }
+    ensures owned { row.new ≡ with_own own (pos coefficient) row.old }
 {
-    let mut owned = row;
-    owned.linear[own] = coefficient as i64;
-    check(owned)
+    row.linear[own] = coefficient as i64;
+    check(row, own + 1)
 }
 
 #[tactic(auto, using(crate::proofs::SpanSize::constant_spans))]
 pub fn constant(v: i64) -> Result<Made, NoRow>
     ensures { answer_of result ≡ checked (constant_row v) }
 {
-    check(constant_row(v))
+    check(&constant_row(v), 0)
 }
 
 // The row of an input that owns the symbol at index own; its range is its ends. It has one coefficient, so nothing is summed.
@@ -101,18 +103,23 @@ fn difference_of(v: i64, w: i64) -> i64
     v - w
 }
 
-// A sum and a difference are one function with another operation. The spans stand in clauses, as of a root: an `Operand` would ask more of callers, the radius.
-pub fn add(x: Row, y: Row) -> Result<Made, NoRow>
-    requires { (span x ≤ span_limit) × (span y ≤ span_limit) }
+// The sum of two rows that have no coefficient from the own symbol of the new one on. A sum and a difference are one function with another operation. The spans
+// stand in clauses, as of a root: an `Operand` would ask more of callers, the radius.
+pub fn add(x: Row, y: Row, own: usize) -> Result<Made, NoRow>
+    requires few { own ≤ symbols }
+    requires none { NoneFrom own x.linear × NoneFrom own y.linear }
+    requires within { (span x ≤ span_limit) × (span y ≤ span_limit) }
     ensures { answer_of result ≡ checked (add_rows x y) }
 {
-    check(zip_rows(&x, &y, sum_of))
+    check(&zip_rows(&x, &y, sum_of), own)
 }
 
 // The second row taken from the first.
-pub fn subtract(x: Row, y: Row) -> Result<Made, NoRow>
-    requires { (span x ≤ span_limit) × (span y ≤ span_limit) }
+pub fn subtract(x: Row, y: Row, own: usize) -> Result<Made, NoRow>
+    requires few { own ≤ symbols }
+    requires none { NoneFrom own x.linear × NoneFrom own y.linear }
+    requires within { (span x ≤ span_limit) × (span y ≤ span_limit) }
     ensures { answer_of result ≡ checked (subtract_rows x y) }
 {
-    check(zip_rows(&x, &y, difference_of))
+    check(&zip_rows(&x, &y, difference_of), own)
 }

@@ -2,7 +2,7 @@
 ghost use Rattle.std.specs.Prelude.{◌≡◌, suc, ◌+◌, ◌^◌, ◌≤◌, ◌<◌, nat_abs, length};
 ghost use Rattle.integer.specs.Sum.{sum_abs};
 ghost use Rattle.affine.specs.Limits.{span_limit};
-ghost use Rattle.affine.specs.Row.{span, within_span, agree};
+ghost use Rattle.affine.specs.Row.{within_span, agree};
 ghost use Rattle.affine.specs.Capped.{capped};
 
 use crate::Row;
@@ -19,16 +19,6 @@ pub fn absolutes(a: &[i64]) -> u64
         sum += v.unsigned_abs();
     }
     sum
-}
-
-// The span of a row, where it does not wrap.
-#[inline]
-#[tactic(auto, using(crate::proofs::RowSize::span_is_sum))]
-pub(crate) fn span(r: &Row) -> u64
-    requires { span r.now < 2 ^ 64 }
-    ensures { result ≡ span r.now }
-{
-    r.centre.unsigned_abs() + absolutes(&r.linear) + absolutes(&r.pair)
 }
 
 // A sum that stops one above the span limit, so that no row makes it wrap.
@@ -48,7 +38,7 @@ fn capped_absolutes(start: u64, a: &[i64]) -> u64
     a.iter().copied().fold(start, capped_sum)
 }
 
-// Whether the span of a row, of any 52 numbers at all, is within its limit. `form_range::measure` sums plainly where the sum does not wrap.
+// Whether the span of a row, of any numbers at all, is within its limit. `form_range::measure` sums plainly where the sum does not wrap.
 #[tactic(auto, using(crate::proofs::RowSize::span_is_sum, crate::proofs::CappedLaws::capped_le, crate::proofs::CappedLaws::capped_parts))]
 pub fn within_span(r: Row) -> bool
     ensures { result ≡ within_span r }

@@ -3,8 +3,9 @@
 #![tactic(auto)]
 
 use affine::Range;
+use capacity::MAX_ROWS;
 use evaluation::table::{RANGE_WIDTH, ROW_WIDTH};
-use sheet::{MAX_BYTES, MAX_INPUTS, MAX_STEPS, Refused};
+use sheet::{MAX_BYTES, Refused};
 use std::{io, str};
 
 const MOST_TURNS: usize = 10000000;
@@ -14,11 +15,9 @@ const MOST_DIGITS: usize = 8;
 const ROOM: usize = MOST_DIGITS + 1 + MAX_BYTES + 1;
 
 // Tables for as many rows as a sheet may have. In ranges too: `evaluation` has the widths, and takes tables of any length.
-const ROWS: usize = MAX_INPUTS + MAX_STEPS;
+const TABLE_NUMBERS: usize = ROW_WIDTH * MAX_ROWS;
 
-const TABLE_NUMBERS: usize = ROW_WIDTH * ROWS;
-
-const RANGES_NUMBERS: usize = RANGE_WIDTH * ROWS;
+const RANGES_NUMBERS: usize = RANGE_WIDTH * MAX_ROWS;
 
 // The range of a sheet's last row after so many evaluations. Not inlined: what is measured is compiled by itself, whatever stands around it in `main`.
 #[inline(never)]

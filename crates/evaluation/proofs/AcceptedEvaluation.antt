@@ -10,7 +10,8 @@ use lib.IntN.{ℤ}
 use lib.ListN.{length}
 use lib.Signed.{◌≤ℤ◌}
 use Rattle.affine.specs.declared.Range.{Range}
-use Rattle.affine.specs.Limits.{symbols, span_limit}
+use Rattle.capacity.specs.Limits.{max_rows}
+use Rattle.affine.specs.Limits.{span_limit}
 use Rattle.interval.specs.Interval.{RangeWithin}
 use Rattle.sheet.specs.declared.Schedule.{Schedule}
 use Rattle.sheet.specs.Writing.{test_of}
@@ -56,7 +57,7 @@ module _ (c : Schedule) (table ranges : List ℤ) (e : (evaluated c table ranges
           record { pass = passed c z; room = l; room_ranges = k; goes = w; rows = ap (λ w. w.rows) q ∙ w.rows }
 
   -- its rows are few
-  pub rows_left_few : row_count c ≤ symbols
+  pub rows_left_few : row_count c ≤ max_rows
   rows_left_few = rows_few c accepted_evaluation.pass
 
   -- the tables that it leaves

@@ -10,7 +10,8 @@ use lib.Dec.{T, eqb, leb}
 use lib.IntN.{ℤ}
 use lib.ListN.{length}
 use lib.Signed.{le_z, ◌≤ℤ◌}
-use Rattle.affine.specs.Limits.{symbols, span_limit}
+use Rattle.capacity.specs.Limits.{max_rows}
+use Rattle.affine.specs.Limits.{span_limit}
 use Rattle.affine.specs.Lists.{pick}
 use Rattle.affine.specs.Row.{span, within_span}
 use Rattle.affine.proofs.Lists.{pick_elim}
@@ -86,33 +87,33 @@ or_else_accepted r s =
 -- ---- 9 and 8
 record TableAccepted (table : List ℤ) (count : ℕ) (known : Bool) : Type 0 where
   pub all_known : known ≡ true
-  pub few : count ≤ symbols
+  pub few : count ≤ max_rows
   pub room : row_width * count ≤ length table
 
 table_accepted : (table : List ℤ) (count : ℕ) (known : Bool) → (table_refusal table count known).number ≡ 0 → TableAccepted table count known
-table_accepted table count known h = by_tests (pick known (leb count symbols) false) (leb (row_width * count) (length table)) refl refl
+table_accepted table count known h = by_tests (pick known (leb count max_rows) false) (leb (row_width * count) (length table)) refl refl
   where
-    by_tests : (named room_refusal : Bool) → pick known (leb count symbols) false ≡ named → leb (row_width * count) (length table) ≡ room_refusal
+    by_tests : (named room_refusal : Bool) → pick known (leb count max_rows) false ≡ named → leb (row_width * count) (length table) ≡ room_refusal
         → TableAccepted table count known
     by_tests true true e q =
-        let b = both_true known (leb count symbols) e in
-        record { all_known = b.0; few = leb-true count symbols b.1; room = leb-true _ _ q }
+        let b = both_true known (leb count max_rows) e in
+        record { all_known = b.0; few = leb-true count max_rows b.1; room = leb-true _ _ q }
     by_tests true false e q = absurd (let z = simp (e, q) at h in omega arith)
     by_tests false true e q = absurd (let z = simp (e, q) at h in omega arith)
     by_tests false false e q = absurd (let z = simp (e, q) at h in omega arith)
 
 -- 9 by one test of each row, and 8 by one of a table's room
 abbrev pub named_refusal : ℕ → ℕ → Refusal
-named_refusal count row = pick (pick (is_row count row) (leb count symbols) false) accepted no_such_row
+named_refusal count row = pick (pick (is_row count row) (leb count max_rows) false) accepted no_such_row
 
 abbrev pub room_refusal : ℕ → List ℤ → ℕ → Refusal
 room_refusal width table count = pick (leb (width * count) (length table)) accepted table_too_short
 
 pub ensured_named : (count row : ℕ) (c : Cause) (place : ℕ)
-    → IfOk (ensured (pick (is_row count row) (leb count symbols) false) c place) (λ u. (1 ≤ row) × (row ≤ count) × (count ≤ symbols))
+    → IfOk (ensured (pick (is_row count row) (leb count max_rows) false) c place) (λ u. (1 ≤ row) × (row ≤ count) × (count ≤ max_rows))
 ensured_named count row c place =
-    ok_ensured (pick (is_row count row) (leb count symbols) false) c place
-    (λ e. let a = both_true (is_row count row) (leb count symbols) e in let b = both_true (leb 1 row) (leb row count) a.0 in (leb-true 1 row b.0, leb-true row count b.1, leb-true count symbols a.1))
+    ok_ensured (pick (is_row count row) (leb count max_rows) false) c place
+    (λ e. let a = both_true (is_row count row) (leb count max_rows) e in let b = both_true (leb 1 row) (leb row count) a.0 in (leb-true 1 row b.0, leb-true row count b.1, leb-true count max_rows a.1))
 
 pub ensured_room : (numbers long : ℕ) (c : Cause) (place : ℕ) → IfOk (ensured (leb numbers long) c place) (λ u. numbers ≤ long)
 ensured_room numbers long c place = ok_ensured (leb numbers long) c place (λ e. leb-true numbers long e)
@@ -135,7 +136,7 @@ pub row_tests : (table : List ℤ) (count row : ℕ) → or_else (named_refusal 
 unfolding row_refusal
 row_tests table count row =
     sym (or_else_chain (named_refusal count row) (room_refusal row_width table count) (lent_row table row))
-    ∙ ap (λ t. or_else t (lent_row table row)) (one_named (is_row count row) (leb count symbols) (room_refusal row_width table count))
+    ∙ ap (λ t. or_else t (lent_row table row)) (one_named (is_row count row) (leb count max_rows) (room_refusal row_width table count))
 
 pub range_tests : (table ranges : List ℤ) (count row : ℕ)
     → or_else (named_refusal count row) (or_else (room_refusal row_width table count) (or_else (room_refusal range_width ranges count) (or_else (lent_row table row) (lent_range ranges row))))
@@ -144,7 +145,7 @@ unfolding range_refusal
 range_tests table ranges count row =
     let rest = or_else (ranges_refusal ranges count) (or_else (lent_row table row) (lent_range ranges row)) in
     sym (or_else_chain (named_refusal count row) (room_refusal row_width table count) rest)
-    ∙ ap (λ t. or_else t rest) (one_named (is_row count row) (leb count symbols) (room_refusal row_width table count))
+    ∙ ap (λ t. or_else t rest) (one_named (is_row count row) (leb count max_rows) (room_refusal row_width table count))
 
 pub rows_tests : (table : List ℤ) (count first second : ℕ)
     → or_else (named_refusal count first) (or_else (named_refusal count second) (or_else (room_refusal row_width table count) (or_else (lent_row table (min first second)) (lent_row table (max first second)))))
@@ -154,7 +155,7 @@ rows_tests table count first second =
     let rest = or_else (lent_row table (min first second)) (lent_row table (max first second)) in
     ap (or_else (named_refusal count first)) (sym (or_else_chain (named_refusal count second) (room_refusal row_width table count) rest))
     ∙ sym (or_else_chain (named_refusal count first) (or_else (named_refusal count second) (room_refusal row_width table count)) rest)
-    ∙ ap (λ t. or_else t rest) (both_named (is_row count first) (is_row count second) (leb count symbols) (room_refusal row_width table count))
+    ∙ ap (λ t. or_else t rest) (both_named (is_row count first) (is_row count second) (leb count max_rows) (room_refusal row_width table count))
 
 -- ---- rows that a table holds
 pub record Held (table : List ℤ) (row : ℕ) : Type 0 where
@@ -274,21 +275,21 @@ test_passed {a} {b} h = by_test (le_z a b) h.le
     by_test false t = absurd t
 
 -- ---- rows within the span limit, and ranges of which no low is above its high: none of them is refused
-module _ (table : List ℤ) (count : ℕ) (few : count ≤ symbols) (within : RowsWithin table count) where
+module _ (table : List ℤ) (count : ℕ) (few : count ≤ max_rows) (within : RowsWithin table count) where
   lent_answered : (row : ℕ) → 1 ≤ row → row ≤ count → lent_row table row ≡ accepted
   lent_answered row l h = simp (le-leb (span (row_at table (row - 1))) span_limit (within.spans (row - 1) (omega arith)))
 
   pub row_answered : (row : ℕ) → 1 ≤ row → row ≤ count → row_refusal table count row ≡ accepted
   unfolding row_refusal
   row_answered row l h =
-      simp (le-leb 1 row l, le-leb row count h, le-leb count symbols few, le-leb (row_width * count) (length table) within.room) (lent_answered row l h)
+      simp (le-leb 1 row l, le-leb row count h, le-leb count max_rows few, le-leb (row_width * count) (length table) within.room) (lent_answered row l h)
 
   rows_answered : (first second : ℕ) → 1 ≤ first → first ≤ second → second ≤ count → rows_refusal table count first second ≡ accepted
   unfolding rows_refusal
   rows_answered first second l m h =
       let q = lent_answered first l (omega arith) in
       let r = lent_answered second (omega arith) h in
-      simp (le-leb 1 first l, le-leb first count (omega arith), le-leb 1 second (omega arith), le-leb second count h, le-leb count symbols few, le-leb (row_width * count) (length table) within.room)
+      simp (le-leb 1 first l, le-leb first count (omega arith), le-leb 1 second (omega arith), le-leb second count h, le-leb count max_rows few, le-leb (row_width * count) (length table) within.room)
       (sym (lower_first table m) ∙ ap₂ or_else q r)
 
   -- what is told of them
@@ -298,7 +299,7 @@ module _ (table : List ℤ) (count : ℕ) (few : count ≤ symbols) (within : Ro
     range_answered row l h =
         let q = lent_answered row l h in
         let r : lent_range ranges row ≡ accepted = ap (λ (b : Bool). pick b accepted (refusal 6 row)) (test_passed (ordered.ordered (row - 1) (omega arith))) in
-        simp (le-leb 1 row l, le-leb row count h, le-leb count symbols few, le-leb (row_width * count) (length table) within.room, le-leb (range_width * count) (length ranges) ordered.room)
+        simp (le-leb 1 row l, le-leb row count h, le-leb count max_rows few, le-leb (row_width * count) (length table) within.room, le-leb (range_width * count) (length ranges) ordered.room)
         (ap₂ or_else q r)
 
     pub range_told_of : (row : ℕ) → 1 ≤ row → row ≤ count → range_of table ranges count row ≡ range_told (range_at ranges (row - 1))

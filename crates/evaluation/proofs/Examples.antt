@@ -24,7 +24,7 @@ use Rattle.sheet.specs.declared.Step.{Step}
 use Rattle.sheet.specs.declared.End.{End}
 use Rattle.sheet.specs.Lines.{zero_end, zero_step, line_of, numbers}
 use Rattle.sheet.specs.Tests.{counts_pass, ends_pass, step_passes, fault}
-use Rattle.sheet.specs.Limits.{max_inputs, max_steps}
+use Rattle.capacity.specs.Limits.{max_inputs, max_steps}
 use Rattle.sheet.specs.Writing.{fault_at, test_lines, test_of}
 use Rattle.evaluation.specs.Table.{row_width, range_width}
 use Rattle.evaluation.specs.Work.{Worked, row_count, binary_answer, unary_answer, step_answer, row_answer, with_answer, worked, evaluated}

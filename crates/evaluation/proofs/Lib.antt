@@ -25,6 +25,7 @@ pub mod FractionUnits
 pub mod RowEnclosure
 pub mod FoundRows
 pub mod NeverEmpty
+pub mod Unused
 pub mod Demand3
 pub mod RootStarts
 pub mod RootMisses

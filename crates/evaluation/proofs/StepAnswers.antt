@@ -75,11 +75,16 @@ module _ {n : ℕ} {t : Step} (passed : StepPassed n t.code t.first t.second t.v
     second_named : Natural 1 n t.second
     second_named = passed.second_row (omega (arith, does.by_code, from)) (omega (arith, does.by_code, to))
 
-    pub first_earlier : i < n
+    first_earlier : i < n
     first_earlier = named_earlier first_named does.first_is
 
-    pub second_earlier : j < n
+    second_earlier : j < n
     second_earlier = named_earlier second_named does.second_is
+
+    -- as operands of the new row
+    pub both_none : {table : List ℤ} {radii : List ℕ} → Operands table radii n → {x y : Row} → x ≡ row_at table i → y ≡ row_at table j
+        → NoneFrom n x.linear × NoneFrom n y.linear
+    both_none operands first second = (read_none operands first_earlier first, read_none operands second_earlier second)
 
     pub two_rows : (squares : ℕ) (table ranges : List ℤ) {a : Answer} {x y : Row} → x ≡ row_at table i → y ≡ row_at table j
         → a ≡ binary_answer squares n t.code x y → a ≡ step_answer squares (rows_in table n) (ranges_in ranges n) t

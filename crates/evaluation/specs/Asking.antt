@@ -3,7 +3,7 @@ use Rattle.std.specs.Prelude.{Bool, false, List, [], ℕ, ◌-◌, ◌*◌, min,
 use Rattle.std.specs.Int.Signed.{le_z}
 use Rattle.affine.specs.declared.Row.{Row}
 use Rattle.affine.specs.declared.Range.{Range}
-use Rattle.affine.specs.Limits.{symbols}
+use Rattle.capacity.specs.Limits.{max_rows}
 use Rattle.affine.specs.Lists.{pick}
 use Rattle.affine.specs.Row.{within_span, same}
 use Rattle.sheet.specs.Answers.{Refusal}
@@ -12,7 +12,7 @@ use Rattle.evaluation.specs.Answers.{RangeAnswer, SameAnswer}
 use Rattle.evaluation.specs.Table.{row_width, range_width, row_part, row_at, range_at}
 use Rattle.evaluation.specs.Work.{table_too_short}
 
--- a row asked for is 0 or above the count given, or the count is above 30 | 9 | place 0
+-- a row asked for is 0 or above the count given, or the count is above the most rows of a sheet, "the row count given may reach 48" | 9 | place 0
 abbrev pub no_such_row : Refusal
 no_such_row = refusal 9 0
 
@@ -23,10 +23,10 @@ is_row count row = pick (leb 1 row) (leb row count) false
 abbrev pub lent_row : List ℤ → ℕ → Refusal
 lent_row table row = pick (within_span (row_at table (row - 1))) accepted (refusal 6 row)
 
--- 9, and then 8: "the table must hold 52 numbers for each row of the count given"
+-- 9, and then 8: "the table must hold .. numbers for each row of the count given"
 abbrev pub table_refusal : List ℤ → ℕ → Bool → Refusal
 table_refusal table count rows =
-    pick (pick rows (leb count symbols) false)
+    pick (pick rows (leb count max_rows) false)
     (pick (leb (row_width * count) (length table)) accepted table_too_short)
     no_such_row
 

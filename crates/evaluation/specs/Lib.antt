@@ -8,3 +8,4 @@ pub mod Values
 pub mod Demand3
 pub mod Roots
 pub mod NeverEmpty
+pub mod Unused

@@ -7,7 +7,7 @@ use Rattle.affine.specs.Lists.{at, tabulate}
 use Rattle.affine.specs.Row.{numbers, span, radius, NoneFrom}
 use Rattle.affine.specs.Root.{Centred}
 
--- "A row is 52 whole numbers"
+-- "a row has 85 numbers"
 abbrev pub row_width : ℕ
 row_width = 1 + symbols + pairs
 
@@ -19,14 +19,14 @@ range_width = 2
 abbrev pub part : ℕ → List ℤ → ℕ → List ℤ
 part width table i = take width (drop (width * i) table)
 
--- "52 numbers for each row"
+-- ".. numbers for each row"
 abbrev pub row_part : List ℤ → ℕ → List ℤ
 row_part table i = part row_width table i
 
 abbrev pub range_part : List ℤ → ℕ → List ℤ
 range_part ranges i = part range_width ranges i
 
--- the row that so many numbers are: "the centre; 30 linear coefficients, for noise symbols 1 to 30; 21 pair coefficients"
+-- the row that so many numbers are: "the centre; .. linear coefficients, ..; .. pair coefficients"
 abbrev pub row_of_numbers : List ℤ → Row
 row_of_numbers ns = record { centre = at ns 0; linear = take symbols (drop 1 ns); pair = take pairs (drop (1 + symbols) ns) }
 
@@ -53,7 +53,7 @@ all_numbers of (x ∷ xs) = of x ++ all_numbers of xs
 unfoldable pub after : {A : Type 0} → ℕ → (A → List ℤ) → List A → List ℤ → List ℤ
 after width of xs table = all_numbers of xs ++ drop (width * length xs) table
 
--- "Evaluation needs 52 numbers for each row and writes no others. After 6 or 7 the rows before the place are written." (12: "place and table as for 7".)
+-- "Evaluation needs .. numbers for each row and writes no others. After 6 or 7 the rows before the place are written." (12: "place and table as for 7".)
 abbrev pub table_after : List Row → List ℤ → List ℤ
 table_after rows table = after row_width numbers rows table
 

@@ -1,6 +1,6 @@
 // Asking about rows: 9, then 8, then 6, the lower row first. Tables, count and row are handed over one by one, as the specification has its calls.
 ghost use Rattle.std.specs.Prelude.{false, IfOk, leb, ◌≡◌, ◌*◌, ◌^◌, ◌<◌, ◌≤◌, length};
-ghost use Rattle.affine.specs.Limits.{symbols};
+ghost use Rattle.capacity.specs.Limits.{max_rows};
 ghost use Rattle.affine.specs.Lists.{pick};
 ghost use Rattle.sheet.specs.Causes.{accepted};
 ghost use Rattle.sheet.specs.Results.{tested};
@@ -17,17 +17,17 @@ ghost use Rattle.evaluation.specs.Asking.{
 };
 
 use crate::table::{RANGE_WIDTH, ROW_WIDTH, get_range, get_row};
-use affine::limits::SYMBOLS;
+use capacity::MAX_ROWS;
 use sheet::{Cause, Refused, ensure};
 
 // 9, of a row that is none of so many, or of more rows than a table may hold.
 #[tactic(auto, using(crate::proofs::AskingLaws::tested_ensured, crate::proofs::AskingLaws::ensured_named))]
 fn test_named(count: usize, row: usize) -> Result<(), Refused>
-    ensures answer { tested result ≡ pick (pick (is_row count row) (leb count symbols) false) accepted no_such_row }
-    ensures named { IfOk result (λ u. (1 ≤ row) × (row ≤ count) × (count ≤ symbols)) }
+    ensures answer { tested result ≡ pick (pick (is_row count row) (leb count max_rows) false) accepted no_such_row }
+    ensures named { IfOk result (λ u. (1 ≤ row) × (row ≤ count) × (count ≤ max_rows)) }
 {
     ensure(
-        (1..=count).contains(&row) && count <= SYMBOLS,
+        (1..=count).contains(&row) && count <= MAX_ROWS,
         Cause::NoSuchRow,
         0,
     )

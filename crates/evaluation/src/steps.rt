@@ -19,8 +19,10 @@ pub(crate) fn step_row(earlier: &Earlier, step: Step, symbols: Symbols) -> Resul
 {
     match operation_of(step) {
         Operation::Constant(value) => affine::steps::constant(value),
-        Operation::Sum(i, j) => affine::steps::add(earlier.row(i), earlier.row(j)),
-        Operation::Difference(i, j) => affine::steps::subtract(earlier.row(i), earlier.row(j)),
+        Operation::Sum(i, j) => affine::steps::add(earlier.row(i), earlier.row(j), symbols.own),
+        Operation::Difference(i, j) => {
+            affine::steps::subtract(earlier.row(i), earlier.row(j), symbols.own)
+        },
         Operation::Product(i, j) => {
             affine::product::multiply(earlier.operand(i), earlier.operand(j), symbols)
         }

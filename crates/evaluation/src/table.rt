@@ -58,8 +58,8 @@ pub fn get_row(table: &[i64], k: usize) -> Row
     row_of_numbers(part::<ROW_WIDTH>(table, k))
 }
 
-// The numbers of src, put into dst from an index on. A loop by index: `copy_from_slice` calls the C library here, by which an evaluation of 30 rows takes 7 in
-// 100 instructions more, and for the part of dst zipped with src the proof did not close.
+// The numbers of src, put into dst from an index on. A loop by index: `copy_from_slice` calls the C library here, by which an evaluation takes more instructions
+// (docs/SPEED.md), and for the part of dst zipped with src the proof did not close.
 fn put_numbers(dst: &mut [i64], at: usize, src: &[i64])
     requires { at + length src.now ≤ length dst.old }
     ensures { dst.new ≡ paste dst.old at src.now (length src.now) }

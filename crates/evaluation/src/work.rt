@@ -12,10 +12,10 @@ ghost use Rattle.evaluation.specs.Work.{row_count, row_answer, worked};
 use crate::earlier::Earlier;
 use crate::steps::step_row;
 use crate::table::{put_range, put_row};
-use affine::limits::SYMBOLS;
 use affine::operands::Symbols;
 use affine::{Made, NoRow};
-use sheet::{Cause, MAX_INPUTS, Refused, Schedule};
+use capacity::{MAX_INPUTS, MAX_ROWS};
+use sheet::{Cause, Refused, Schedule};
 
 // The cause that stands for an operation without a row (manual, section 6). A function and no `From`: both types are other crates'.
 fn cause_of(no_row: NoRow) -> Cause
@@ -69,7 +69,7 @@ pub(crate) fn work_rows(
     ensures left { table.new ≡ table_after (worked c rows).rows table.old }
     ensures own { ranges.new ≡ ranges_after (own_ranges c (worked c rows).rows) ranges.old }
 {
-    let mut radii = [0u64; SYMBOLS];
+    let mut radii = [0u64; MAX_ROWS];
     // by index: a row is made from the rows before it in the same tables
     for i in 0..rows {
         let earlier = Earlier {

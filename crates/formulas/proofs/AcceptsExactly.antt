@@ -1,4 +1,4 @@
--- The call accepts exactly the formulas of 1 to 24 steps, at most 200 bytes and literals within the limits, beside inputs that pass.
+-- The call accepts exactly the formulas of at least one step whose steps, bytes and literals are within the limits, beside inputs that pass.
 use mathlib.Core.Path.{◌≡◌, ap}
 use mathlib.Core.Bool.{false}
 use mathlib.Core.List.{List}
@@ -6,7 +6,7 @@ use Prim.Native.Nat.{ℕ, ◌<◌}
 use native.Mathlib.Omega.{arith}
 use borrow.Author.Tests.{eq-eqb, ne_eqb, le-ltb, eqb-true, eqb-false, ltb-false}
 use lib.Dec.{eqb, ltb}
-use Rattle.sheet.specs.Limits.{max_steps}
+use Rattle.capacity.specs.Limits.{max_steps}
 use Rattle.sheet.specs.Causes.{accepted}
 use Rattle.sheet.specs.Lines.{natural}
 use Rattle.sheet.specs.Answers.{Refusal, ReadAnswer}

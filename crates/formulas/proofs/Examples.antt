@@ -7,7 +7,7 @@ use Prim.Native.Nat.{ℕ}
 use lib.IntN.{pos}
 use lib.ListN.{length, replicate}
 use lib.Seq.{sets}
-use Rattle.sheet.specs.Limits.{max_steps}
+use Rattle.capacity.specs.Limits.{max_inputs, max_steps}
 use Rattle.sheet.specs.Causes.{refusal}
 use Rattle.sheet.specs.Lines.{zero_end, zero_step, zero_schedule, line_of, numbers}
 use Rattle.sheet.specs.Tests.{counts_pass, ends_pass, step_passes, fault}
@@ -24,7 +24,7 @@ use Rattle.formulas.specs.declared.InputBlock.{InputBlock}
 
 -- three inputs from 1 to 2
 abbrev ends : List End
-ends = let e : End = record { low = pos 4096; high = pos 8192 } in e ∷ e ∷ e ∷ zero_end ∷ zero_end ∷ zero_end ∷ []
+ends = let e : End = record { low = pos 4096; high = pos 8192 } in sets (replicate max_inputs zero_end) 0 (e ∷ e ∷ e ∷ [])
 
 abbrev block : InputBlock
 block = record { inputs = pos 3; squares = pos 1; ends = ends }

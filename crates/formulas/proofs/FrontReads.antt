@@ -12,7 +12,7 @@ use lib.Seq.{take_all, length-take-le}
 use Rattle.formulas.specs.Limits.{max_text, max_nesting}
 use Rattle.formulas.specs.Reading.{no_formula, tree, reading, start, fresh, too_long, formula_of}
 use Rattle.formulas.specs.Answer.{first_beyond}
-use Rattle.sheet.specs.Limits.{max_inputs}
+use Rattle.capacity.specs.Limits.{max_inputs}
 use Rattle.formulas.specs.Built.{place_of, no_steps, Breaks, PartRight, RightWhole}
 use Rattle.formulas.specs.declared.steps.Steps.{Steps}
 use Rattle.formulas.specs.declared.builder.Part.{Part}

@@ -1,4 +1,4 @@
--- Inputs that pass 3 and 4: there are 1 to 6, and the answer is the text's. Number 0 alone tells an accepted answer.
+-- Inputs that pass 3 and 4: there is one at least, and there are no more than there may be; and the answer is the text's. Number 0 alone tells an accepted answer.
 use mathlib.Core.Path.{◌≡◌, refl, ap}
 use mathlib.Core.Bool.{false}
 use mathlib.Core.List.{List}
@@ -6,7 +6,7 @@ use Prim.Native.Nat.{ℕ, ◌≤◌, ◌<◌}
 use native.Mathlib.Omega.{arith}
 use borrow.Author.Tests.{eq-eqb, eqb-true, eqb-false}
 use lib.Dec.{eqb, ltb}
-use Rattle.sheet.specs.Limits.{max_inputs, max_steps}
+use Rattle.capacity.specs.Limits.{max_inputs, max_steps}
 use Rattle.sheet.specs.Causes.{accepted}
 use Rattle.sheet.specs.Lines.{natural}
 use Rattle.sheet.specs.Answers.{Refusal, ReadAnswer}

@@ -18,7 +18,7 @@ use Rattle.formulas.specs.Grammar.{Tree, letter, literal, byte_of}
 use Rattle.formulas.specs.Reading.{Open, fresh, wanting, holding, broken, after_holding, next, no_formula, tree, reading, start, token_of}
 use Rattle.formulas.specs.Steps.{step_of, step_count, steps_of, LiteralsWithin}
 use Rattle.formulas.specs.Answer.{first_beyond}
-use Rattle.sheet.specs.Limits.{max_inputs}
+use Rattle.capacity.specs.Limits.{max_inputs}
 use Rattle.formulas.specs.Built.{literal_at, place_of, found, sign_within, no_steps, Reaches, Right, Breaks, Constant}
 use Rattle.formulas.specs.declared.Sign.{Sign}
 use Rattle.formulas.specs.declared.Sign.TheVariants.{Plus, Minus, Times, Over}

@@ -7,7 +7,7 @@ use native.Mathlib.Omega.{arith}
 use lib.Dec.{eqb, ltb}
 use lib.ListN.{length, take, drop, take-append-drop}
 use lib.Seq.{take-length, take-take}
-use Rattle.sheet.specs.Limits.{max_steps}
+use Rattle.capacity.specs.Limits.{max_steps}
 use Rattle.sheet.specs.Lines.{natural}
 use Rattle.sheet.specs.Answers.{Refusal, ReadAnswer}
 use Rattle.sheet.proofs.Choice.{pick_elim}

@@ -8,7 +8,8 @@ use borrow.Author.Tests.{le-leb, lt-leb}
 use lib.IntN.{ℤ, pos}
 use lib.ListN.{get_or}
 use Rattle.sheet.specs.Choice.{pick}
-use Rattle.sheet.specs.Limits.{max_inputs, max_steps, end_limit, last_binary, last_code}
+use Rattle.capacity.specs.Limits.{max_inputs, max_steps}
+use Rattle.sheet.specs.Limits.{end_limit, last_binary, last_code}
 use Rattle.sheet.specs.Causes.{accepted, count_wrong}
 use Rattle.sheet.specs.Lines.{natural, zero_end, ends_at, step_at, numbers, end_numbers, step_numbers}
 use Rattle.sheet.specs.Tests.{fault, counts_pass, step_passes}

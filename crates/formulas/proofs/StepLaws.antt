@@ -9,7 +9,7 @@ use lib.IntN.{pos}
 use lib.ListN.{length, get_or, length-append, get_or-append}
 use lib.Seq.{get_or-append-add}
 use Rattle.sheet.specs.declared.Step.{Step}
-use Rattle.sheet.specs.Limits.{max_steps}
+use Rattle.capacity.specs.Limits.{max_steps}
 use Rattle.sheet.specs.Lines.{natural, zero_step, step_at}
 use Rattle.sheet.proofs.Passing.{Natural}
 use Rattle.sheet.proofs.Trimmed.{up_to_within}

@@ -2,7 +2,8 @@
 use Rattle.std.specs.Prelude.{Bool, true, false, List, [], ◌∷◌, ℕ, suc, ◌+◌, ◌*◌, eqb, ltb, pos, replicate}
 use Rattle.sheet.specs.Choice.{pick}
 use Rattle.sheet.specs.Number.{digit_of}
-use Rattle.sheet.specs.Limits.{max_steps, end_limit}
+use Rattle.capacity.specs.Limits.{max_steps}
+use Rattle.sheet.specs.Limits.{end_limit}
 use Rattle.sheet.specs.Causes.{refusal, accepted, step_wrong}
 use Rattle.sheet.specs.Lines.{natural, zero_schedule}
 use Rattle.sheet.specs.Writing.{test_of}
@@ -21,7 +22,7 @@ no_formula_refusal place = refusal 10 place
 abbrev pub literal_beyond : ℕ → Refusal
 literal_beyond place = refusal step_wrong place
 
--- 11: no step, or more than 24 | place 0
+-- 11: no step, or more than a schedule has room for, "11 counts to 40" | place 0
 abbrev pub steps_beyond : Refusal
 steps_beyond = refusal 11 0
 
@@ -52,7 +53,7 @@ refused r = record { refusal = r; schedule = zero_schedule }
 abbrev pub answered : Schedule → ReadAnswer
 answered c = record { refusal = accepted; schedule = c }
 
--- "11: no step, or more than 24"
+-- "11: no step, or more than .."
 abbrev pub steps_answer : InputBlock → Tree → ReadAnswer
 steps_answer block t =
     pick (eqb (step_count t) 0) (refused steps_beyond) (pick (ltb max_steps (step_count t)) (refused steps_beyond) (answered (schedule_of block t)))

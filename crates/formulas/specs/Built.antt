@@ -4,7 +4,8 @@ use Rattle.std.specs.Option.{option_or}
 use Rattle.std.specs.Bool.{then_some}
 use Rattle.std.proofs.lemmas.List.Edits.{sets}
 use Rattle.sheet.specs.Choice.{pick}
-use Rattle.sheet.specs.Limits.{max_inputs, max_steps, end_limit}
+use Rattle.capacity.specs.Limits.{max_inputs, max_steps}
+use Rattle.sheet.specs.Limits.{end_limit}
 use Rattle.sheet.specs.Number.{digit_of}
 use Rattle.sheet.specs.Answers.{Refusal}
 use Rattle.sheet.specs.Causes.{accepted}

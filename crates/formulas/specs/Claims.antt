@@ -1,7 +1,7 @@
 -- What is claimed of formulas and of the call. `proofs/` proves each.
 use Rattle.std.specs.Prelude.{◌≡◌, ◌↔◌, List, ◌++◌, ℕ, suc, ◌-◌, ◌≤◌, ◌<◌, length, take}
 use Rattle.integer.specs.Fraction.{Fraction}
-use Rattle.sheet.specs.Limits.{max_steps}
+use Rattle.capacity.specs.Limits.{max_steps}
 use Rattle.sheet.specs.Causes.{accepted}
 use Rattle.sheet.specs.Lines.{natural}
 use Rattle.sheet.specs.Writing.{test_of}
@@ -18,7 +18,7 @@ use Rattle.formulas.specs.declared.InputBlock.{InputBlock}
 abbrev pub OneReading : Type 0
 OneReading = (inputs : ℕ) (s : List ℕ) (t u : Tree) → Formula inputs s t → Formula inputs s u → t ≡ u
 
--- What the call accepts: inputs that pass 3 and 4, and a formula over them of 1 to 24 steps, at most 200 bytes and literals within the limits.
+-- What the call accepts: inputs that pass 3 and 4, and a formula over them of at least one step, whose steps, bytes and literals are within the limits.
 pub record Accepted (block : InputBlock) (s : List ℕ) (t : Tree) : Type 0 where
   pub inputs_pass : inputs_test block ≡ accepted
   pub formula : Formula (natural block.inputs) s t

@@ -31,7 +31,7 @@ pub data Numeral : List ℕ → ℕ → Type 0 where
 
 -- The texts of a rank over so many inputs, in which brackets nest to so many at most, each with its tree.
 pub data Text (inputs : ℕ) : (rank nesting : ℕ) → List ℕ → Tree → Type 0 where
-  -- "Letters a to f are inputs 1 to 6."
+  -- "Letters a to .. are inputs 1 to ..": one for each input; "Formula letters run to h".
   letter_text : {k i : ℕ} → i < inputs → Text inputs 0 k ((97 + i) ∷ []) (letter i)
   literal_text : {k v : ℕ} {s : List ℕ} → Numeral s v → Text inputs 0 k s (literal v)
   -- "and round brackets"

@@ -9,7 +9,7 @@ use Rattle.formulas.specs.declared.Sign.TheVariants.{Plus, Minus, Times, Over}
 use Rattle.formulas.specs.declared.Token.{Token}
 use Rattle.formulas.specs.declared.Token.TheVariants.{Digit, Letter, Operator, Opening, Closing, Other}
 
--- "Letters a to f are inputs 1 to 6": the letter of one of so many inputs, or nothing of a formula.
+-- "Letters a to .. are inputs 1 to ..": the letter of one of so many inputs, or nothing of a formula.
 unfoldable pub letter_of : ℕ → ℕ → Token
 letter_of inputs b = pick (ltb b 97) Other (pick (ltb (b - 97) inputs) (Letter (b - 97)) Other)
 

@@ -3,7 +3,8 @@ use Rattle.std.specs.Prelude.{List, [], ◌∷◌, ◌++◌, ℕ, suc, ◌+◌, 
 use Rattle.sheet.specs.declared.End.{End}
 use Rattle.sheet.specs.declared.Step.{Step}
 use Rattle.sheet.specs.declared.Schedule.{Schedule}
-use Rattle.sheet.specs.Limits.{max_inputs, max_steps, end_limit}
+use Rattle.capacity.specs.Limits.{max_inputs, max_steps}
+use Rattle.sheet.specs.Limits.{end_limit}
 use Rattle.sheet.specs.Lines.{natural, zero_end, zero_step}
 use Rattle.sheet.specs.Same.{up_to}
 use Rattle.formulas.specs.Grammar.{Tree, letter, literal, binary}

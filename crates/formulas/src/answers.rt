@@ -1,6 +1,6 @@
 // What the call answers: the test of the inputs, the refusal by 10, and the schedule of a text that is a formula.
 ghost use Rattle.std.specs.Prelude.{◌≡◌, ◌≤◌};
-ghost use Rattle.sheet.specs.Limits.{max_steps};
+ghost use Rattle.capacity.specs.Limits.{max_steps};
 ghost use Rattle.sheet.specs.Lines.{natural};
 ghost use Rattle.sheet.specs.Results.{tested};
 ghost use Rattle.sheet.specs.declared.causes.Cause.TheVariants.{NoFormula};

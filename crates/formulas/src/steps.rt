@@ -1,6 +1,6 @@
 // The steps that are made, put one behind another.
 ghost use Rattle.std.specs.Prelude.{◌≡◌, ◌+◌, ◌<◌, ◌≤◌, [], ◌∷◌};
-ghost use Rattle.sheet.specs.Limits.{max_inputs};
+ghost use Rattle.capacity.specs.Limits.{max_inputs};
 ghost use Rattle.sheet.specs.Results.{tested};
 ghost use Rattle.formulas.specs.Steps.{step_of, sign_steps};
 

@@ -7,18 +7,23 @@
 
 ghost use Rattle.std.specs.Prelude.{◌≤◌};
 
+use capacity::{MAX_INPUTS, MAX_ROWS, MAX_STEPS};
+use evaluation::table::{RANGE_WIDTH, ROW_WIDTH};
 use formulas::InputBlock;
-use sheet::{End, MAX_INPUTS, MAX_STEPS, Refused, Schedule, Step};
+use sheet::{End, MAX_BYTES, Refused, Schedule, Step};
 use std::fs::File;
 use std::io::Read;
 use std::{array, io};
 
+// One row more than a sheet may have.
+const ROWS: usize = MAX_ROWS + 1;
+
 // The most numbers and bytes that are lent.
-const TABLE_ROOM: usize = 1612;
+const TABLE_ROOM: usize = ROW_WIDTH * ROWS;
 
-const RANGES_ROOM: usize = 70;
+const RANGES_ROOM: usize = RANGE_WIDTH * ROWS;
 
-const WRITE_ROOM: usize = 700;
+const WRITE_ROOM: usize = MAX_BYTES;
 
 const LIST_ROOM: usize = 4200;
 // The most bytes of a sheet that is listed, and of a formula that is read.
@@ -134,8 +139,10 @@ fn next_end(file: &mut impl Read) -> End {
     End { low, high }
 }
 
+// As many ends as the next field says, or all of them; the others are zeros.
 fn next_ends(file: &mut impl Read) -> [End; MAX_INPUTS] {
-    array::from_fn(|_| next_end(file))
+    let given = next_size(file);
+    array::from_fn(|i| if i < given { next_end(file) } else { End::ZERO })
 }
 
 // The fields of a step, in the order of a sheet's line.
@@ -143,12 +150,22 @@ fn next_step(file: &mut impl Read) -> Step {
     Step::from(array::from_fn(|_| next_signed(file)))
 }
 
+// As many steps as the next field says, or all of them; the others are zeros.
+fn next_steps(file: &mut impl Read) -> [Step; MAX_STEPS] {
+    let given = next_size(file);
+    array::from_fn(|j| if j < given {
+        next_step(file)
+    } else {
+        Step::ZERO
+    })
+}
+
 fn next_schedule(file: &mut impl Read) -> Schedule {
     let inputs = next_signed(file);
     let squares = next_signed(file);
     let steps = next_signed(file);
     let ends = next_ends(file);
-    let step = array::from_fn(|_| next_step(file));
+    let step = next_steps(file);
     Schedule {
         inputs,
         squares,

@@ -67,7 +67,7 @@ module _ (t r u s : List ℤ) (long : table_numbers ≤ length t) (long_r : rang
   unfolding text_of
   text_alike sheet = ap (λ l. pick (eqb (read_of sheet).refusal.number 0) l (refusal_text (read_of sheet).refusal)) (schedule_alike (read_of sheet).schedule)
 
--- ANY TABLE: of every sheet and all tables that hold thirty rows and their ranges.
+-- ANY TABLE: of every sheet and all tables that hold as many rows as a sheet may have, and their ranges.
 pub any_table : AnyTable
 any_table sheet table ranges long long_ranges =
     text_alike table ranges (replicate table_numbers (pos 0)) (replicate ranges_numbers (pos 0)) long long_ranges

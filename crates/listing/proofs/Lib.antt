@@ -6,4 +6,5 @@ pub mod BeginningTells
 pub mod SameParts
 pub mod AnyTable
 pub mod Legible
+pub mod Widths
 pub mod Examples

@@ -1,4 +1,4 @@
--- Every text fits into the bytes that are asked for: 12 bytes a number at the most, five numbers a row, thirty rows at the most.
+-- Every text fits into the bytes that are asked for: 12 bytes a number at the most, five numbers a row, and as many rows as a sheet may have.
 use mathlib.Core.List.{List, [], ◌∷◌}
 use Prim.Native.Nat.{ℕ, ◌*◌, ◌≤◌}
 use native.Mathlib.Omega.{arith}

@@ -7,7 +7,7 @@ use Rattle.sheet.specs.Causes.{accepted, bytes_too_short}
 use Rattle.sheet.specs.Writing.{not_written}
 use Rattle.listing.specs.Listing.{text_of, table_of, ranges_of}
 
--- As many bytes as every text fits into (`Claims.antt`): fewer are "lent bytes too short".
+-- As many bytes as every text fits into (`Claims.antt`): fewer are "lent table or bytes too short".
 abbrev pub text_room : ℕ
 text_room = 4096
 

@@ -1,11 +1,12 @@
 -- The text of a sheet, from its bytes to the bytes that are printed (manual, section 3): "What the program prints".
-use Rattle.std.specs.Prelude.{List, [], ◌∷◌, ◌++◌, ℕ, zero, suc, ◌-◌, eqb, ℤ, pos, replicate}
+use Rattle.std.specs.Prelude.{List, [], ◌∷◌, ◌++◌, ℕ, zero, suc, ◌-◌, ◌*◌, eqb, ℤ, pos, replicate}
+use Rattle.capacity.specs.Limits.{max_rows}
 use Rattle.affine.specs.Lists.{pick, at}
 use Rattle.sheet.specs.declared.Schedule.{Schedule}
 use Rattle.sheet.specs.Answers.{Refusal}
 use Rattle.sheet.specs.Text.{line, texts}
 use Rattle.sheet.specs.Reading.{read_of}
-use Rattle.evaluation.specs.Table.{table_after, ranges_after}
+use Rattle.evaluation.specs.Table.{row_width, range_width, table_after, ranges_after}
 use Rattle.evaluation.specs.Work.{row_count, evaluated}
 use Rattle.evaluation.specs.Ranges.{answered_ranges}
 use Rattle.evaluation.specs.Asking.{range_of, same_of, part_of}
@@ -19,7 +20,7 @@ unfoldable pub first_among : List ℤ → ℕ → ℕ → ℕ → ℕ → ℕ
 first_among table count row from zero = 0
 first_among table count row from (suc n) = pick (same_of table count from row).same from (first_among table count row (suc from) n)
 
--- "same is the first earlier row with identical 52 numbers, or 0"
+-- "same is the first earlier row with identical .. numbers, or 0"
 abbrev pub first_same : List ℤ → ℕ → ℕ → ℕ
 first_same table count row = first_among table count row 1 (row - 1)
 
@@ -73,13 +74,13 @@ table_of sheet table ranges = pick (eqb (read_of sheet).refusal.number 0) (table
 unfoldable pub ranges_of : List ℕ → List ℤ → List ℤ → List ℤ
 ranges_of sheet table ranges = pick (eqb (read_of sheet).refusal.number 0) (ranges_left (read_of sheet).schedule table ranges) ranges
 
--- "The program lends a table of 1,560 numbers, all zero at the start."
+-- "The program lends a table .. all zero at the start." "A full table is 4,080 numbers": room for every row
 abbrev pub table_numbers : ℕ
-table_numbers = 1560
+table_numbers = row_width * max_rows
 
--- and a second one, of two numbers for each of 30 rows
+-- and a second one, "two numbers a row"
 abbrev pub ranges_numbers : ℕ
-ranges_numbers = 60
+ranges_numbers = range_width * max_rows
 
 -- "It reads a sheet from standard input .. and it prints": what it prints for the bytes of an input
 abbrev pub printed : List ℕ → List ℕ

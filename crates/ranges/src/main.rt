@@ -4,19 +4,18 @@
 
 ghost use Rattle.ranges.specs.Printed.{Printed};
 
+use capacity::MAX_ROWS;
 use evaluation::table::{RANGE_WIDTH, ROW_WIDTH};
 use listing::TEXT_ROOM;
-use sheet::{MAX_BYTES, MAX_INPUTS, MAX_STEPS};
+use sheet::MAX_BYTES;
 
 // One byte more than a sheet may have: that a sheet is longer is noticed, and what lies behind is not read.
 const SHEET_ROOM: usize = MAX_BYTES + 1;
 
 // Tables for as many rows as a sheet may have. In bench_evaluate too: `evaluation` has the widths, and takes tables of any length.
-const ROWS: usize = MAX_INPUTS + MAX_STEPS;
+const TABLE_NUMBERS: usize = ROW_WIDTH * MAX_ROWS;
 
-const TABLE_NUMBERS: usize = ROW_WIDTH * ROWS;
-
-const RANGES_NUMBERS: usize = RANGE_WIDTH * ROWS;
+const RANGES_NUMBERS: usize = RANGE_WIDTH * MAX_ROWS;
 
 // Writes what is printed for an input of which these bytes were read: all of it that there is room for. It tells how many bytes, in fixed memory. So many
 // bytes as the array has are never refused: the 0 stands for no answer.

@@ -3,11 +3,14 @@
 use mathlib.Core.Path.{◌≡◌, refl}
 use mathlib.Core.Bool.{Bool, true, false}
 use mathlib.Core.List.{List, [], ◌∷◌, ◌++◌}
-use Prim.Native.Nat.{ℕ}
+use Prim.Native.Nat.{ℕ, suc}
 use lib.Dec.{eqb}
 use lib.ListN.{replicate}
 use lib.IntN.{pos, negsuc}
+use lib.Seq.{sets}
 use Rattle.sheet.specs.Choice.{pick}
+use Rattle.capacity.specs.Limits.{max_inputs, max_steps}
+use Rattle.sheet.specs.Limits.{max_bytes}
 use Rattle.sheet.specs.Causes.{accepted}
 use Rattle.sheet.specs.Text.{decimal, numeral, line, texts}
 use Rattle.sheet.specs.Number.{run, judged, after_sign, field_at}
@@ -28,8 +31,8 @@ example_sheet = record {
   inputs = pos 1;
   squares = pos 1;
   steps = pos 6;
-  ends = record { low = negsuc 511; high = pos 512 } ∷ replicate 5 zero_end;
-  step = step 1 0 0 4096 ∷ step 2 1 2 0 ∷ step 4 3 3 0 ∷ step 1 0 0 8192 ∷ step 4 5 1 0 ∷ step 3 4 6 0 ∷ replicate 18 zero_step;
+  ends = sets (replicate max_inputs zero_end) 0 (record { low = negsuc 511; high = pos 512 } ∷ []);
+  step = sets (replicate max_steps zero_step) 0 (step 1 0 0 4096 ∷ step 2 1 2 0 ∷ step 4 3 3 0 ∷ step 1 0 0 8192 ∷ step 4 5 1 0 ∷ step 3 4 6 0 ∷ []);
 }
 
 -- its third line is `low high`, its fourth `-512 512`, its last `3 4 6 0`
@@ -77,13 +80,14 @@ examples =
     example 0 0 (sheet_with one_step zero_ends constant_zero)
     -- nothing at all: the first line is missing
     ∷ example 2 1 []
-    -- 1,025 bytes
-    ∷ example 1 0 (replicate 1025 0)
-    -- `1 0 01`, and `9 0 01`: layout before meaning
+    -- a byte too many
+    ∷ example 1 0 (replicate (suc max_bytes) 0)
+    -- `1 0 01`, and the same with an input too many: layout before meaning
     ∷ example 2 2 (sheet_with (49 ∷ 32 ∷ 48 ∷ 32 ∷ 48 ∷ 49 ∷ 10 ∷ []) zero_ends constant_zero)
-    ∷ example 2 2 (sheet_with (57 ∷ 32 ∷ 48 ∷ 32 ∷ 48 ∷ 49 ∷ 10 ∷ []) zero_ends constant_zero)
-    -- `7 0 1`, and `1 2 1`: more squares than inputs
-    ∷ example 3 2 (sheet_with (55 ∷ 32 ∷ 48 ∷ 32 ∷ 49 ∷ 10 ∷ []) zero_ends constant_zero)
+    ∷ example 2 2 (sheet_with (numeral (pos (suc max_inputs)) ++ (32 ∷ 48 ∷ 32 ∷ 48 ∷ 49 ∷ 10 ∷ [])) zero_ends constant_zero)
+    -- an input too many, a step too many, and `1 2 1`: more squares than inputs
+    ∷ example 3 2 (sheet_with (line (pos (suc max_inputs) ∷ pos 0 ∷ pos 1 ∷ [])) zero_ends constant_zero)
+    ∷ example 3 2 (sheet_with (line (pos 1 ∷ pos 0 ∷ pos (suc max_steps) ∷ [])) zero_ends constant_zero)
     ∷ example 3 2 (sheet_with (49 ∷ 32 ∷ 50 ∷ 32 ∷ 49 ∷ 10 ∷ []) zero_ends constant_zero)
     -- `1 0`: low above high
     ∷ example 4 4 (sheet_with one_step (49 ∷ 32 ∷ 48 ∷ 10 ∷ []) constant_zero)
@@ -102,5 +106,5 @@ examples =
     ∷ []
 
 examples_hold : holds examples ≡ true
-unfolding holds examples example sheet_with one_step zero_ends constant_zero read_of read_sheet read_lines read_as fields_at fields_from field_at after_sign judged run starts fault counts_pass ends_pass step_passes store zero_schedule line_of numbers
+unfolding holds examples example sheet_with one_step zero_ends constant_zero line numeral decimal read_of read_sheet read_lines read_as fields_at fields_from field_at after_sign judged run starts fault counts_pass ends_pass step_passes store zero_schedule line_of numbers
 examples_hold = refl

@@ -8,7 +8,7 @@ use borrow.Author.Tests.{lt-ltb, le-ltb, lt-leb, eq-eqb, ne_eqb}
 use lib.ListN.{length, take, length-set}
 use lib.Seq.{get_or-set_same, get_or-set_other}
 use lib.IntN.{ℤ}
-use Rattle.sheet.specs.Limits.{max_inputs, max_steps}
+use Rattle.capacity.specs.Limits.{max_inputs, max_steps}
 use Rattle.sheet.specs.Text.{line}
 use Rattle.sheet.specs.Lines.{line_of, names, width, numbers, line_text, store, ends_of, step_of, zero_end, zero_step, end_numbers, step_numbers}
 use Rattle.sheet.specs.Tests.{fault}

@@ -9,7 +9,8 @@ use borrow.Author.Tests.{eq-eqb, eqb-true, eqb-false}
 use lib.Dec.{eqb}
 use lib.IntN.{ℤ, pos, negsuc, nat_abs}
 use Rattle.sheet.specs.Choice.{pick}
-use Rattle.sheet.specs.Limits.{max_inputs, max_steps, last_binary, last_code}
+use Rattle.capacity.specs.Limits.{max_inputs, max_steps}
+use Rattle.sheet.specs.Limits.{last_binary, last_code}
 use Rattle.sheet.specs.Causes.{accepted}
 use Rattle.sheet.specs.Lines.{natural, line_of, line_at, lines_left, numbers, ends_at, step_at}
 use Rattle.sheet.specs.Tests.{fault, counts_pass, ends_pass, step_passes}

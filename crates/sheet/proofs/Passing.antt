@@ -8,7 +8,8 @@ use lib.Dec.{leb}
 use lib.Signed.{le_z}
 use lib.IntN.{ℤ, pos, negsuc, nat_abs}
 use Rattle.sheet.specs.Choice.{pick}
-use Rattle.sheet.specs.Limits.{max_inputs, max_steps, end_limit, last_binary, last_code}
+use Rattle.capacity.specs.Limits.{max_inputs, max_steps}
+use Rattle.sheet.specs.Limits.{end_limit, last_binary, last_code}
 use Rattle.sheet.specs.Lines.{natural}
 use Rattle.sheet.specs.Tests.{between, is_zero, within_limit, names_row, counts_pass, ends_pass, step_passes, row_passes, value_passes}
 
@@ -41,7 +42,7 @@ pub within_limit_lem : (z : ℤ) → within_limit z ≡ true → nat_abs z ≤ e
 within_limit_lem (pos n) e = leb-true n end_limit e
 within_limit_lem (negsuc n) e = let t = both (leb n (end_limit - 1)) true e in omega (arith, leb-true n (end_limit - 1) t.0)
 
--- 3: "inputs 1 to 6, squares 0 to inputs, steps 1 to 24"
+-- 3: "inputs 1 to .., squares 0 to inputs, steps 1 to .."
 pub record CountsPassed (inputs squares steps : ℤ) : Type 0 where
   pub inputs_in : Natural 1 max_inputs inputs
   pub squares_in : Natural 0 (natural inputs) squares

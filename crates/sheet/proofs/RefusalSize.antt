@@ -8,7 +8,8 @@ use borrow.Author.Tests.{eqb-true}
 use lib.Dec.{eqb, ltb}
 use lib.IntN.{ℤ}
 use lib.ListN.{length, drop}
-use Rattle.sheet.specs.Limits.{max_inputs, max_steps, max_bytes}
+use Rattle.capacity.specs.Limits.{max_inputs, max_steps}
+use Rattle.sheet.specs.Limits.{max_bytes}
 use Rattle.sheet.specs.Lines.{zero_schedule, lines_left, line_at, names, width, numbers}
 use Rattle.sheet.specs.Tests.{fault, counts_pass, ends_pass, step_passes}
 use Rattle.sheet.specs.Reading.{starts, fields_at, read_as, read_line, read_lines, read_sheet, read_of}

@@ -2,7 +2,7 @@
 use Rattle.std.proofs.Common.{◌≡◌, sym, ap, ◌∙◌, ℕ, zero, suc, ◌+◌, ◌-◌, Bool, true, false, OnOk, IfErr, ◌≤◌, ◌<◌, List, length, take, Result, Ok, Err, arith}
 use borrow.Author.Tests.{eq-eqb, ne_eqb}
 use lib.Seq.{sets}
-use Rattle.sheet.specs.Limits.{max_inputs, max_steps}
+use Rattle.capacity.specs.Limits.{max_inputs, max_steps}
 use Rattle.sheet.specs.Answers.{Refusal, Part}
 use Rattle.sheet.specs.Causes.{refusal, accepted, line_broken}
 use Rattle.sheet.specs.Lines.{natural, zero_schedule, lines_left}

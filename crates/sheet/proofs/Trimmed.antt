@@ -7,7 +7,7 @@ use native.Mathlib.Omega.{arith}
 use native.Mathlib.Decide.{dec_lt}
 use lib.ListN.{get_or, set, replicate, length-replicate, get_or-replicate, get_or-eq_default}
 use lib.IntN.{ℤ}
-use Rattle.sheet.specs.Limits.{max_inputs, max_steps}
+use Rattle.capacity.specs.Limits.{max_inputs, max_steps}
 use Rattle.sheet.specs.Lines.{natural, zero_schedule, zero_end, zero_step, ends_at, step_at, line_at, lines_left, numbers, store}
 use Rattle.sheet.specs.Reading.{padded}
 use Rattle.sheet.specs.Same.{Same, up_to, trimmed}

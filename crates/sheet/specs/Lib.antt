@@ -8,6 +8,7 @@ pub mod Lines
 pub mod Tests
 pub mod Reading
 pub mod Writing
+pub mod LongestSheet
 pub mod Results
 pub mod Wrote
 pub mod Same

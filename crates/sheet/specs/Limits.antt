@@ -1,13 +1,5 @@
--- The limits of a sheet (manual, section 2), each named here and nowhere else in definitions and laws (src/lib.rt has them for the code).
+-- The limits of a sheet (manual, section 2), besides those of its counts; src/lib.rt has the same names for the code.
 use Rattle.std.specs.Prelude.{ℕ}
-
--- "inputs 1 to 6"
-abbrev pub max_inputs : ℕ
-max_inputs = 6
-
--- "steps 1 to 24"
-abbrev pub max_steps : ℕ
-max_steps = 24
 
 -- "Both ends lie from -268,435,456 to 268,435,456"
 abbrev pub end_limit : ℕ
@@ -17,7 +9,7 @@ end_limit = 268435456
 abbrev pub max_bytes : ℕ
 max_bytes = 1024
 
--- "Codes: 1 constant, 2 add, 3 subtract, 4 multiply, 5 reciprocal", and 6 root: the last of those that name a second row, and the last of all
+-- "Codes: 1 constant .., 2 add, 3 subtract .., 4 multiply, 5 reciprocal ..", and 6 root: the last of those that name a second row, and the last of all
 abbrev pub last_binary : ℕ
 last_binary = 4
 

@@ -2,7 +2,7 @@
 use Rattle.std.specs.Prelude.{List, [], ◌∷◌, ℕ, ◌+◌, ◌-◌, leb, ltb, eqb, get_or, set, replicate, ℤ, pos, negsuc}
 use Rattle.sheet.specs.Choice.{pick}
 use Rattle.sheet.specs.Text.{line}
-use Rattle.sheet.specs.Limits.{max_inputs, max_steps}
+use Rattle.capacity.specs.Limits.{max_inputs, max_steps}
 use Rattle.sheet.specs.declared.End.{End}
 use Rattle.sheet.specs.declared.Step.{Step}
 use Rattle.sheet.specs.declared.Schedule.{Schedule}

@@ -1,6 +1,6 @@
 -- When two schedules are the same ("The sheet": manual, section 2.7), and a schedule with zeros beyond its counts.
 use Rattle.std.specs.Prelude.{◌≡◌, List, [], ◌∷◌, ℕ, zero, suc, ◌<◌, replicate}
-use Rattle.sheet.specs.Limits.{max_inputs, max_steps}
+use Rattle.capacity.specs.Limits.{max_inputs, max_steps}
 use Rattle.sheet.specs.Lines.{natural, zero_end, zero_step, ends_at, step_at}
 use Rattle.sheet.specs.declared.Schedule.{Schedule}
 

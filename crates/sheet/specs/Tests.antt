@@ -2,7 +2,8 @@
 use Rattle.std.specs.Prelude.{Bool, false, List, ℕ, leb, ℤ, pos, neg_ℤ}
 use Rattle.std.specs.Int.Signed.{le_z}
 use Rattle.sheet.specs.Choice.{pick}
-use Rattle.sheet.specs.Limits.{max_inputs, max_steps, end_limit, last_binary, last_code}
+use Rattle.capacity.specs.Limits.{max_inputs, max_steps}
+use Rattle.sheet.specs.Limits.{end_limit, last_binary, last_code}
 use Rattle.sheet.specs.Causes.{count_wrong, end_wrong, step_wrong}
 use Rattle.sheet.specs.Lines.{natural, item}
 use Rattle.sheet.specs.declared.Line.{Line}
@@ -19,7 +20,7 @@ is_zero z = between (pos 0) z (pos 0)
 abbrev pub within_limit : ℤ → Bool
 within_limit z = between (neg_ℤ (pos end_limit)) z (pos end_limit)
 
--- "inputs 1 to 6, squares 0 to inputs, steps 1 to 24"
+-- "inputs 1 to .., squares 0 to inputs, steps 1 to .."
 unfoldable pub counts_pass : ℤ → ℤ → ℤ → Bool
 counts_pass inputs squares steps =
     pick (between (pos 1) inputs (pos max_inputs))

@@ -2,7 +2,7 @@
 #![tactic(auto)]
 
 ghost use Rattle.std.specs.Prelude.{◌≡◌, ◌+◌, ◌<◌, ◌≤◌, get_or};
-ghost use Rattle.sheet.specs.Limits.{max_inputs, max_steps};
+ghost use Rattle.capacity.specs.Limits.{max_inputs, max_steps};
 ghost use Rattle.sheet.specs.Tests.{ends_pass, step_passes};
 ghost use Rattle.sheet.specs.Reading.{read_of};
 ghost use Rattle.sheet.specs.Writing.{test_of, Written};
@@ -25,10 +25,8 @@ pub use lines::natural;
 pub use fields::{put_bytes, put_fields};
 pub use number::{Found, byte, digit, field_at, put_count, put_number};
 
-// The limits of a sheet (manual, section 2.4); specs/Limits.antt has the same names for definitions and laws.
-pub const MAX_INPUTS: usize = 6;
-
-pub const MAX_STEPS: usize = 24;
+// The limits of a sheet (manual, section 2.4): of its counts, from `capacity`, and the others; the `Limits.antt` of both crates have the same names for definitions and laws.
+pub use capacity::{MAX_INPUTS, MAX_STEPS};
 
 pub const MAX_BYTES: usize = 1024;
 

@@ -24,7 +24,7 @@ fn call() -> Option<Call> {
     let mut words = std::env::args_os().skip(1).map(OsStringExt::into_vec);
     let formula = words.next()?;
     let squares = sheet::number(&words.next()?)?;
-    let mut ends = Vec::with_capacity(6);
+    let mut ends = Vec::with_capacity(sheet::INPUTS_LIMIT);
     while let Some(word) = words.next() {
         let low = sheet::number(&word)?;
         let high = sheet::number(&words.next()?)?;
@@ -34,7 +34,7 @@ fn call() -> Option<Call> {
 }
 
 fn sheet_text(schedule: &Schedule) -> Result<String, std::fmt::Error> {
-    let mut text = String::with_capacity(1024);
+    let mut text = String::with_capacity(sheet::BYTES_LIMIT);
     text.push_str("inputs squares steps\n");
     writeln!(text, "{} {} {}", schedule.inputs, schedule.squares, schedule.steps)?;
     text.push_str("low high\n");

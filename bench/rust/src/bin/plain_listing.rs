@@ -9,13 +9,13 @@ mod rows;
 #[path = "../sheet.rs"]
 mod sheet;
 
-use rows::{Range, Row};
+use rows::{Range, Row, ROWS_LIMIT};
 use sheet::Refusal;
 use std::fmt::Write as _;
 use std::io::{Read, Write};
 
 /// One byte more than a sheet may have.
-const SHEET_ROOM: u64 = 1025;
+const SHEET_ROOM: u64 = sheet::BYTES_LIMIT as u64 + 1;
 
 /// The number of the first row that is the same as the row of an index and stands before it, or 0.
 fn first_same(rows: &[Row], index: usize) -> usize {
@@ -24,8 +24,8 @@ fn first_same(rows: &[Row], index: usize) -> usize {
 
 fn listing(input: &[u8]) -> Result<String, Refusal> {
     let schedule = sheet::read(input)?;
-    let mut table = [Row::ZERO; 30];
-    let mut ranges = [Range::ZERO; 30];
+    let mut table = [Row::ZERO; ROWS_LIMIT];
+    let mut ranges = [Range::ZERO; ROWS_LIMIT];
     evaluation::evaluate(&schedule, &mut table, &mut ranges)?;
     let rows = &table[..schedule.inputs + schedule.steps];
     let mut text = String::with_capacity(4096);

@@ -14,6 +14,7 @@ use Rattle.affine.proofs.RowRead.{centre_fits}
 use Rattle.affine.proofs.Magnitude.{centre_product_fits}
 use Rattle.affine.proofs.Totals.{linear_total_none}
 use Rattle.affine.proofs.Parted.{divided, divided_none, remainders_small, remainders_small_used}
+use Rattle.affine.proofs.Fronts.{tabulate_none}
 use Rattle.affine.proofs.ProductRow.{error_small, row_small, row_is}
 use Rattle.affine.proofs.product.multiply.Goals as goal
 
@@ -77,17 +78,21 @@ overflow_add-error-3 c =
 pub check_with_own-requires : goal.check_with_own-requires
 check_with_own-requires c =
     let fits : to_z w64 (of_z w64 c.divided-centre.result.number) ≡ c.divided-centre.result.number = search rules in
-    let centre = ap (λ (r : Row). r.centre) c.constant_row-row.ensures ∙ fits in (
-      c.args.symbols.owned,
-      row_small c.args.x c.args.y c.args.symbols c.divided-centre.result c.dropped_part-dropped.ensures c.divided-centre.ensures.remainder c.put_front-linear.ensures.rests c.put_pairs_in_use-pair.ensures.rests
-          centre c.divided-centre.ensures.quotient c.put_front-linear.ensures.numbers c.put_pairs_in_use-pair.ensures.numbers c.ceiling_quotient.ensures,
-    )
+    let centre = ap (λ (r : Row). r.centre) c.constant_row-row.ensures ∙ fits in
+    let total = linear_total c.args.x.row c.args.y.row in
+    let none = (λ (i : ℕ) (h : c.args.symbols.own ≤ i). (divided_none (linear_total_none c.args.x.row c.args.y.row c.args.symbols.own c.requires.0 c.requires.1 i h)).0) in
+    record {
+      none = (c.args.symbols.owned, rw c.put_front-linear.ensures.numbers (tabulate_none c.args.symbols.own (divided total).number none));
+      small =
+          row_small c.args.x c.args.y c.args.symbols c.divided-centre.result c.dropped_part-dropped.ensures c.divided-centre.ensures.remainder c.put_front-linear.ensures.rests c.put_pairs_in_use-pair.ensures.rests
+          centre c.divided-centre.ensures.quotient c.put_front-linear.ensures.numbers c.put_pairs_in_use-pair.ensures.numbers c.ceiling_quotient.ensures;
+    }
 
 pub returns : goal.returns
 returns c =
     let fits : to_z w64 (of_z w64 c.divided-centre.result.number) ≡ c.divided-centre.result.number = search rules in
     let centre = ap (λ (r : Row). r.centre) c.constant_row-row.ensures ∙ fits in
-    c.check_with_own.ensures
+    c.check_with_own.ensures.answer
     ∙ ap checked
     (row_is c.args.x c.args.y c.args.symbols c.divided-centre.result c.dropped_part-dropped.ensures c.divided-centre.ensures.remainder c.put_front-linear.ensures.rests c.put_pairs_in_use-pair.ensures.rests
     centre c.divided-centre.ensures.quotient c.put_front-linear.ensures.numbers c.put_pairs_in_use-pair.ensures.numbers c.ceiling_quotient.ensures)

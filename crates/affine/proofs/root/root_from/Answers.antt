@@ -8,7 +8,7 @@ use Rattle.integer.proofs.Order.{≤ℤ_trans}
 use Rattle.affine.specs.declared.Row.{Row}
 use Rattle.affine.specs.declared.Range.{Range}
 use Rattle.affine.specs.Limits.{span_limit}
-use Rattle.affine.specs.Row.{span, low, form_range}
+use Rattle.affine.specs.Row.{span, low, form_range, NoneFrom}
 use Rattle.affine.specs.Measured.{measured}
 use Rattle.affine.specs.Steps.{with_own, checked}
 use Rattle.affine.specs.Root.{unit_root, root_candidate, square_error, root_own, root_row, starts_below_zero}
@@ -19,10 +19,16 @@ use Rattle.affine.proofs.RootCandidate.{least_within, unit_root_some, root_candi
 use Rattle.affine.proofs.SquareError.{square_error_within}
 use Rattle.affine.proofs.root.root_from.Goals as goal
 
+candidate_none : (x : Row) {own : ℕ} {z : Row} → NoneFrom own x.linear → z ≡ root_candidate x → NoneFrom own z.linear
+candidate_none x {own} none e = rw e (root_candidate_none x own none)
+
 pub measure-requires : goal.measure-requires
 measure-requires c =
     let some = ≤ℤ_trans c.requires.least.0 c.requires.least.1 in
-    span_as c.root_candidate-z.ensures (span_root_candidate c.args.x.now some c.requires.none.1)
+    record {
+      none = (omega (arith, c.args.symbols.owned), candidate_none c.args.x.now c.requires.none.0 c.root_candidate-z.ensures);
+      small = span_as c.root_candidate-z.ensures (span_root_candidate c.args.x.now some c.requires.none.1);
+    }
 
 -- ---- the candidate's range, as the code reads its low end
 low_is : (x m : Row) (range : Range) → m ≡ root_candidate x → range ≡ form_range m → {l : ℤ} → l ≡ range.low
@@ -52,10 +58,7 @@ module _ (s own : ℕ) (x : Row) (least : ℤ) {m z : Row} {n d q : ℕ} (em : m
 
 pub square_error-bound-requires-clause-none : goal.square_error-bound-requires-clause-none
 square_error-bound-requires-clause-none c =
-    let x = c.args.x.now in
-    let own = c.args.symbols.own in
-    let none = c.requires.none.0 in
-    (none, rw c.root_candidate-z.ensures (root_candidate_none x own none))
+    (c.requires.none.0, candidate_none c.args.x.now c.requires.none.0 c.root_candidate-z.ensures)
 
 pub square_error-bound-requires-clause-within : goal.square_error-bound-requires-clause-within
 square_error-bound-requires-clause-within c =
@@ -87,11 +90,13 @@ check_with_own-requires c =
     let y = c.args.symbols in
     let m = c.root_candidate-z.result in
     let e : Some c.in_ok-size.size ≡ measured c.root_candidate-z.result = search rules in
-    let d = (rw (to_z-of_z w64 c.args.least c.ranges.least) at c.unit_root.ensures) in (
-      y.owned,
-      own_small y.squares y.own c.args.x.now c.args.least c.root_candidate-z.ensures refl c.square_error-bound.ensures d c.ceiling_quotient-own.ensures
-          c.requires.none.1 (measured_within m e) c.requires.least.0,
-    )
+    let d = (rw (to_z-of_z w64 c.args.least c.ranges.least) at c.unit_root.ensures) in
+    record {
+      none = (y.owned, candidate_none c.args.x.now c.requires.none.0 c.root_candidate-z.ensures);
+      small =
+          own_small y.squares y.own c.args.x.now c.args.least c.root_candidate-z.ensures refl c.square_error-bound.ensures d c.ceiling_quotient-own.ensures
+          c.requires.none.1 (measured_within m e) c.requires.least.0;
+    }
 
 pub returns : goal.returns
 returns c =
@@ -103,5 +108,5 @@ returns c =
     let not_below = sym (low_is c.args.x.now m c.in_ok-size.size.range c.root_candidate-z.ensures (measured_range m e) read) ∙ c.if-size-lt0.false in
     let d = (rw (to_z-of_z w64 c.args.least c.ranges.least) at c.unit_root.ensures) in
     rw (inside, not_below)
-    (c.check_with_own.ensures
+    (c.check_with_own.ensures.answer
     ∙ ap checked (row_is y.squares y.own c.args.x.now c.args.least c.root_candidate-z.ensures refl c.square_error-bound.ensures d c.ceiling_quotient-own.ensures))

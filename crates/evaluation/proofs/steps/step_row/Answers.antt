@@ -8,7 +8,7 @@ use mir.Val.{SFits}
 use mir.ValLaws.{to_z-of_z}
 use Rattle.evaluation.specs.Table.{RowsWithin, RangesOf, Operands}
 use Rattle.evaluation.specs.Work.{binary_answer, unary_answer}
-use Rattle.evaluation.proofs.StepAnswers.{read_span, read_none, read_centred, first_earlier, second_earlier, two_rows, only_earlier, one_row, no_row}
+use Rattle.evaluation.proofs.StepAnswers.{read_span, read_none, read_centred, both_none, two_rows, only_earlier, one_row, no_row}
 use Rattle.evaluation.proofs.steps.step_row.Goals as goal
 
 -- what holds of as many rows as are before the step's holds up to its own symbol
@@ -25,11 +25,17 @@ returns-in-Constant c =
 pub multiply-requires : goal.multiply-requires
 multiply-requires c =
     let e = c.args.earlier.now in
-    let h = c.in-Product.ensures in
-    let held = at_own (Operands e.table.now e.radii.now) c.requires.next e.summed in (
-      read_none held (first_earlier c.requires.step_passed h (omega arith) (omega arith)) c.operand.ensures,
-      read_none held (second_earlier c.requires.step_passed h (omega arith) (omega arith)) c.operand-in-Product.ensures,
-    )
+    both_none c.requires.step_passed c.in-Product.ensures (omega arith) (omega arith) (at_own (Operands e.table.now e.radii.now) c.requires.next e.summed) c.operand.ensures c.operand-in-Product.ensures
+
+pub add-requires-clause-none : goal.add-requires-clause-none
+add-requires-clause-none c =
+    let e = c.args.earlier.now in
+    both_none c.requires.step_passed c.in-Sum.ensures (omega arith) (omega arith) (at_own (Operands e.table.now e.radii.now) c.requires.next e.summed) c.row.ensures c.row-in-Sum.ensures
+
+pub subtract-requires-clause-none : goal.subtract-requires-clause-none
+subtract-requires-clause-none c =
+    let e = c.args.earlier.now in
+    both_none c.requires.step_passed c.in-Difference.ensures (omega arith) (omega arith) (at_own (Operands e.table.now e.radii.now) c.requires.next e.summed) c.row-in-Difference.ensures c.row-in-Difference-2.ensures
 
 pub returns-in-Product : goal.returns-in-Product
 unfolding binary_answer

@@ -12,7 +12,8 @@ use Rattle.affine.specs.Answer.{Answer}
 use Rattle.affine.specs.Steps.{input_answer}
 use Rattle.sheet.specs.declared.Schedule.{Schedule}
 use Rattle.sheet.specs.Lines.{natural, ends_at, step_at}
-use Rattle.sheet.specs.Limits.{end_limit, max_inputs}
+use Rattle.capacity.specs.Limits.{max_inputs}
+use Rattle.sheet.specs.Limits.{end_limit}
 use Rattle.sheet.proofs.Passed.{Passed}
 use Rattle.integer.proofs.Absolute.{fits_within}
 use Rattle.evaluation.specs.Table.{rows_in, ranges_in}

@@ -3,7 +3,7 @@ use mathlib.Core.Path.{◌∙◌, ap}
 use mathlib.Core.List.{List, ◌++◌}
 use native.Mathlib.Omega.{arith}
 use lib.ListN.{drop, replicate}
-use Rattle.sheet.specs.Limits.{max_inputs}
+use Rattle.capacity.specs.Limits.{max_inputs}
 use Rattle.sheet.specs.Lines.{zero_end}
 use Rattle.sheet.specs.declared.End.{End}
 use Rattle.formulas.proofs.BuiltSteps.{front_held}

@@ -1,4 +1,4 @@
--- `schedule_of` takes the steps where there are at most 24.
+-- `schedule_of` takes the steps where a schedule has room for them.
 use mathlib.Core.Path.{ap, ◌∙◌}
 use Prim.Native.Nat.{ℕ, ◌≤◌}
 use native.Mathlib.Omega.{arith}
@@ -8,7 +8,7 @@ use mir.Val.{SFits}
 use mir.ValLaws.{to_z-of_z, to_z_pos}
 use lib.IntN.{pos}
 use lib.ListN.{get_or}
-use Rattle.sheet.specs.Limits.{max_steps}
+use Rattle.capacity.specs.Limits.{max_steps}
 use Rattle.sheet.specs.Lines.{zero_step}
 use Rattle.sheet.specs.Same.{up_to}
 use Rattle.formulas.specs.Steps.{step_count, steps_of, ends_within, schedule_of}

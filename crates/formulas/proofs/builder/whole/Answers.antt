@@ -4,7 +4,7 @@ use mathlib.Core.List.{List}
 use Prim.Native.Nat.{ℕ, ◌≤◌, min}
 use lib.ListN.{length, take}
 use Rattle.std.proofs.lemmas.Result.{err_from_is_err_and}
-use Rattle.sheet.specs.Limits.{max_inputs}
+use Rattle.capacity.specs.Limits.{max_inputs}
 use Rattle.formulas.specs.Limits.{max_text, max_nesting}
 use Rattle.formulas.specs.Built.{no_steps, Breaks, PartRight}
 use Rattle.formulas.specs.declared.steps.Steps.{Steps}
