@@ -6,13 +6,16 @@ LIBRARY is tests/failing_calls.c, built as a shared library and loaded before th
 to a call what it is told, and logs each call. First the calls of a run are counted, then each of
 them fails in a run of its own. A run passes where what came out is
 
-- the right text and no message, if calls were only interrupted or cut short,
+- the right text and no message, if calls were only interrupted or cut short, and status 0,
 - the bytes taken before a write that failed, and then no other write and one line that says why,
-- nothing but one line that says why, if a read failed,
+  and status 1,
+- nothing but one line that says why, if a read failed, and status 1,
 
 and where the log shows that calls were changed as planned. Then come failures of the system's own:
-a full pipe, a file that may not grow, closed descriptors. The right text is the one stored in
-examples/, or the checker's. The last line is `N passed, M failed`.
+a full pipe, a file that may not grow, closed descriptors. Last come calls with arguments: `--help`
+and `--version`, and wrong calls, which read nothing, write one line on standard error and end with
+status 2. The right text is the one stored in examples/, or the checker's. The last line is `N passed,
+M failed`.
 """
 
 import collections
@@ -47,6 +50,31 @@ INTERRUPTIONS = (1, 5)
 SECONDS_ALLOWED = 10
 # after so many runs that did not end in time a process makes no other, and each counts as failed
 UNENDED_ALLOWED = 2
+VERSION = b"ranges (Doqhuymi) 1.7.0\n"
+NO_ARGUMENT = "ranges: '{}' is no argument that it takes: see ranges --help\n"
+TOO_MANY = "ranges: '{}' is one argument too many: see ranges --help\n"
+# the arguments of each call that is neither `--help` nor `--version`, the line that tells what is wrong, and the word that it shows
+WRONG_CALLS = (
+    (("",), NO_ARGUMENT, ""),
+    (("help",), NO_ARGUMENT, "help"),
+    (("-h",), NO_ARGUMENT, "-h"),
+    (("--hel",), NO_ARGUMENT, "--hel"),
+    (("--helpx",), NO_ARGUMENT, "--helpx"),
+    (("--help\n",), NO_ARGUMENT, "--help?"),
+    (("--versions",), NO_ARGUMENT, "--versions"),
+    (("--version-of-the-program",), NO_ARGUMENT, "--version-of-the-program"),
+    (("examples/square.sheet",), NO_ARGUMENT, "examples/square.sheet"),
+    ((b"\x1b[1m \x7f\xff~",), NO_ARGUMENT, "?[1m ??~"),
+    (("x" * 40,), NO_ARGUMENT, "x" * 40),
+    (("x" * 41,), NO_ARGUMENT, "x" * 37 + "..."),
+    (("x" * 100_000,), NO_ARGUMENT, "x" * 37 + "..."),
+    (("--help", "y"), TOO_MANY, "y"),
+    (("--help", "--help"), TOO_MANY, "--help"),
+    (("--help", "--version"), TOO_MANY, "--version"),
+    (("--version", ""), TOO_MANY, ""),
+    (("", "--help"), TOO_MANY, "--help"),
+    (("x", "y", "z"), TOO_MANY, "y"),
+)
 # of more calls than this, in a run that moves a byte at a time, some are left out
 CALLS_TRIED = 140
 
@@ -117,7 +145,9 @@ def rest_of(descriptor: int) -> bytes:
 unended = 0
 
 
-def spawn(program: str, stdin, stdout, variables=(), ignored=()) -> tuple[int, bytes]:
+def spawn(
+    program: str, stdin, stdout, variables=(), ignored=(), arguments=()
+) -> tuple[int, bytes]:
     """Runs the program on two descriptors; None is a closed one, and bytes are a file of them.
     Closes the first. Answers the status and what was written to standard error."""
     global unended
@@ -133,7 +163,7 @@ def spawn(program: str, stdin, stdout, variables=(), ignored=()) -> tuple[int, b
             actions.append((os.POSIX_SPAWN_DUP2, descriptor, number))
     defaults = {signal.SIGPIPE, signal.SIGXFSZ} - set(ignored)
     process = os.posix_spawn(
-        program, [program], dict(variables), file_actions=actions, setsigdef=defaults
+        program, [program, *arguments], dict(variables), file_actions=actions, setsigdef=defaults
     )
     os.close(writable)
     if source is not None:
@@ -175,18 +205,23 @@ class Runner:
         return dataclasses.replace(outcome, calls=tuple(calls))
 
 
+def wrong_line(message: bytes, text: str) -> list[str]:
+    """The message is one line, with the program's name at its start and the text in it."""
+    one_line = message.endswith(b"\n") and message.count(b"\n") == 1
+    if one_line and message.startswith(b"ranges: ") and text.encode() in message:
+        return []
+    return [f"standard error is {message!r}, not one line with {text!r}"]
+
+
 def wrong_end(outcome: Outcome, error: int = 0) -> list[str]:
-    """The status is 0; standard error has one line with the system's text for the error, or
-    nothing where there is none."""
-    problems = [f"status {outcome.status}"] if outcome.status else []
-    message = outcome.message
+    """Where there is an error the status is 1, and standard error has one line with the system's
+    text for it; else the status is 0, and there is no line."""
+    wanted = 1 if error else 0
+    problems = [f"status {outcome.status}"] if outcome.status != wanted else []
     if error:
-        text = os.strerror(error)
-        one_line = message.endswith(b"\n") and message.count(b"\n") == 1
-        if not one_line or text.encode() not in message:
-            problems.append(f"standard error is {message!r}, not one line with {text!r}")
-    elif message:
-        problems.append(f"standard error is {message!r}")
+        return problems + wrong_line(outcome.message, os.strerror(error))
+    if outcome.message:
+        problems.append(f"standard error is {outcome.message!r}")
     return problems
 
 
@@ -405,6 +440,59 @@ def failures_of_reading(program: str):
         os.close(writable)
 
 
+def with_arguments(program: str, arguments, stdout=None) -> tuple[Outcome, int]:
+    """Runs the program with arguments on a sheet, into a descriptor or, where that is None, a file.
+    Answers also how many bytes of the sheet were read."""
+    sheet, _ = sheet_of(SHEETS[0])
+    stdin, into = file_of(sheet), file_of(b"")
+    try:
+        target = into if stdout is None else stdout
+        status, message = spawn(program, os.dup(stdin), target, arguments=arguments)
+        os.lseek(into, 0, os.SEEK_SET)
+        return Outcome(status, rest_of(into), message), os.lseek(stdin, 0, os.SEEK_CUR)
+    finally:
+        os.close(stdin)
+
+
+def wrong_call(outcome: Outcome, line: bytes) -> list[str]:
+    """Status 2, the line that says what was wrong, and nothing on standard output."""
+    problems = [f"status {outcome.status}"] if outcome.status != 2 else []
+    if outcome.output:
+        problems.append(f"standard output is {outcome.output!r}")
+    if outcome.message != line:
+        problems.append(f"standard error is {outcome.message!r}")
+    return problems
+
+
+def calls_with_arguments(program: str):
+    """`--help` and `--version`, also where they cannot be written, and wrong calls: none reads."""
+    device = os.open("/dev/full", os.O_WRONLY)
+    cases = []
+    for word in ("--help", "--version"):
+        outcome, read = with_arguments(program, (word,))
+        problems = wrong_end(outcome)
+        if word == "--version" and outcome.output != VERSION:
+            problems.append(f"the version is {outcome.output!r}")
+        if word == "--help" and not all(
+            part in outcome.output for part in (b"ranges", b"--help", b"--version", b"status")
+        ):
+            problems.append(f"the help is {outcome.output!r}")
+        if not outcome.output.endswith(b"\n"):
+            problems.append("no line's end")
+        cases.append((word, problems, read))
+        outcome, read = with_arguments(program, (word,), device)
+        cases.append((f"{word} on a full device", wrong_nothing(outcome, errno.ENOSPC), read))
+    for arguments, line, word in WRONG_CALLS:
+        told, name = line.format(word).encode(), f"{arguments}"[:60]
+        outcome, read = with_arguments(program, arguments)
+        cases.append((name, wrong_call(outcome, told), read))
+        outcome, read = with_arguments(program, arguments, device)
+        cases.append((f"{name} on a full device", wrong_call(outcome, told), read))
+    os.close(device)
+    for name, problems, read in cases:
+        yield "arguments", name, problems + ([f"{read} bytes were read"] if read else [])
+
+
 def wrong_outcomes(program: str, library: str, folder: str):
     """That a run can fail: without the library, where no call fails, and with wrong outcomes."""
     sheet, right = sheet_of(SHEETS[0])
@@ -428,18 +516,32 @@ def wrong_outcomes(program: str, library: str, folder: str):
         (interrupted, Outcome(0, signless, b"", (*calls, after))),
         (interrupted, Outcome(0, right, message, (*calls, after))),
         (interrupted, Outcome(1, right, b"", (*calls, after))),
-        (failing, Outcome(0, signless[:25], message, calls)),
-        (failing, Outcome(0, right[:24], message, calls)),
-        (failing, Outcome(0, right[:25], b"", calls)),
-        (failing, Outcome(0, right[:25], message + message, calls)),
-        (failing, Outcome(0, right[:25], b"ranges: Success\n", calls)),
-        (failing, Outcome(0, right, message, (*calls, after))),
-        (failing, Outcome(0, right[:25], message, (*calls, Call("write", 1, 0, "nothing")))),
+        (failing, Outcome(1, signless[:25], message, calls)),
+        (failing, Outcome(1, right[:24], message, calls)),
+        (failing, Outcome(1, right[:25], b"", calls)),
+        (failing, Outcome(1, right[:25], message + message, calls)),
+        (failing, Outcome(1, right[:25], b"ranges: Success\n", calls)),
+        (failing, Outcome(1, right, message, (*calls, after))),
+        (failing, Outcome(1, right[:25], message, (*calls, Call("write", 1, 0, "nothing")))),
+        (failing, Outcome(0, right[:25], message, calls)),
+        (failing, Outcome(2, right[:25], message, calls)),
     ):
         noticed = wrong_under(plan, outcome, right)
         yield "noticed", f"{outcome}", [] if noticed else ["not noticed"]
-    accepted = wrong_under(failing, Outcome(0, right[:25], message, calls), right)
+    accepted = wrong_under(failing, Outcome(1, right[:25], message, calls), right)
     yield "noticed", "a right outcome", accepted
+    line = NO_ARGUMENT.format("x").encode()
+    for outcome in (
+        Outcome(0, b"", line),
+        Outcome(1, b"", line),
+        Outcome(2, right, line),
+        Outcome(2, b"", b""),
+        Outcome(2, b"", line + line),
+        Outcome(2, b"", NO_ARGUMENT.format("y").encode()),
+    ):
+        noticed = wrong_call(outcome, line)
+        yield "noticed", f"{outcome}", [] if noticed else ["not noticed"]
+    yield "noticed", "a right outcome of a wrong call", wrong_call(Outcome(2, b"", line), line)
 
 
 def main() -> int:
@@ -452,6 +554,7 @@ def main() -> int:
             under_plans(program, library, folder),
             failures_of_writing(program),
             failures_of_reading(program),
+            calls_with_arguments(program),
         )
         for part in parts:
             for group, name, problems in part:

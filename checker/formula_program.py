@@ -1,4 +1,4 @@
-"""What the program `formula` prints for its arguments.
+"""What the program `formula` prints for its arguments, and what it tells of a wrong call.
 
     python3 checker/formula_program.py FORMULA SQUARES LOW HIGH ..
 
@@ -13,6 +13,30 @@ import listing
 import sheet
 
 EXAMPLE = [b"(a+8192)*b/c", b"2", b"4096", b"8192", b"-512", b"512", b"4096", b"12288"]
+
+
+SHOWN = 40
+
+
+def shown(word: bytes) -> bytes:
+    """A word as a line shows it: what is no printable character of ASCII is a question mark, and one of more than 40 bytes is cut."""
+    text = bytes(byte if 32 <= byte <= 126 else ord("?") for byte in word)
+    return text if len(text) <= SHOWN else text[: SHOWN - 3] + b"..."
+
+
+def wrong_call(words: list[bytes]) -> bytes | None:
+    """The line that tells what is wrong with a call; None where it is right. Words are counted from the formula, which is the first."""
+    told = None
+    if not words:
+        told = b"no formula is given"
+    elif len(words) == 1:
+        told = b"no squares are given (argument 2)"
+    elif len(words) % 2:
+        told = b"the low end '%s' has no high end (argument %d)" % (shown(words[-1]), len(words))
+    for place, word in reversed(list(enumerate(words, 1))[1:]):
+        if not sheet.NUMBER.fullmatch(word):
+            told = b"'%s' is no number of a sheet (argument %d)" % (shown(word), place)
+    return told and b"formula: " + told + b": see formula --help\n"
 
 
 def printed(words: list[bytes]) -> bytes | None:

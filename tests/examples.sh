@@ -1,10 +1,12 @@
 #!/usr/bin/env bash
-# Each sheet and each formula of examples/: the stored output is what the checker makes of it, and what the program prints.
+# Each sheet and each formula of examples/: the stored output is what the checker makes of it, and what the program prints, listing or refusal, and both end
+# with status 0.
 cd "$(dirname "${BASH_SOURCE[0]}")/.." || exit 2
+set -o pipefail
 passed=0
 failed=0
 
-# same STORED WHAT COMMAND..: what the command prints, with standard input as it is, is the stored file
+# same STORED WHAT COMMAND..: what the command prints, with standard input as it is, is the stored file, and its status is 0
 same() {
     local stored=$1 what=$2
     shift 2

@@ -1,6 +1,6 @@
 #!/usr/bin/env bash
-# The program ranges while its reads and writes are interrupted, cut short or fail: checker/failing_calls.py, with tests/failing_calls.c loaded
-# before the C library.
+# The program ranges while its reads and writes are interrupted, cut short or fail, and called with arguments: what comes out, and the exit status.
+# checker/failing_calls.py, with tests/failing_calls.c loaded before the C library.
 cd "$(dirname "${BASH_SOURCE[0]}")/.." || exit 2
 folder=$(mktemp -d) || exit 2
 trap 'rm -rf "$folder"' EXIT

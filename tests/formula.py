@@ -1,8 +1,9 @@
 #!/usr/bin/env python3
 """The program formula, as tools/build built it, prints what the checker says for its arguments: sheets, refusals, wrong calls.
 
-A wrong call prints nothing on standard output and how to call it on standard error; any other prints nothing on standard error. Each
-sheet that is printed is handed to ranges. The last line is `N passed, M failed`.
+A wrong call prints nothing on standard output, one line on standard error that tells what is wrong, and ends with status 2; any other
+prints nothing on standard error and ends with 0, or, where a write fails, one line there and ends with 1. Each sheet that is printed is
+handed to ranges. The last line is `N passed, M failed`.
 """
 
 import itertools
@@ -20,8 +21,9 @@ import sheet
 
 FORMULA = ROOT / "target/bin/formula"
 RANGES = ROOT / "target/bin/ranges"
-HOW_TO_CALL = b"call: formula FORMULA SQUARES LOW HIGH LOW HIGH ..., as formula '(a+8192)*b' 2 -512 512 4096 8192\n"
-CANNOT_WRITE = b"formula: cannot write the sheet: No space left on device\n"
+VERSION = b"formula (Doqhuymi) 1.7.0\n"
+# What stands in the help: the call and what else may be asked.
+HELP_NAMES = [b"formula FORMULA SQUARES LOW HIGH LOW HIGH ...", b"formula --help", b"formula --version", b"exit status"]
 
 # The most inputs, and one more.
 MOST, BEYOND = sheet.INPUTS_LIMIT, sheet.INPUTS_LIMIT + 1
@@ -99,7 +101,37 @@ def run(words):
 
 def expected(words):
     text = formula_program.printed(words)
-    return (b"", HOW_TO_CALL, 0) if text is None else (text, b"", 0)
+    return (b"", formula_program.wrong_call(words), 2) if text is None else (text, b"", 0)
+
+
+def told_of(word: bytes, place: int) -> bytes:
+    return b"formula: '%s' is no number of a sheet (argument %d): see formula --help\n" % (word, place)
+
+
+def wrong_words():
+    """Messages that are written out here: each kind of wrong call, and how a word is shown that is long, or no text."""
+    yield [], b"formula: no formula is given: see formula --help\n"
+    yield [b"a"], b"formula: no squares are given (argument 2): see formula --help\n"
+    yield [b"--help", b"--help"], told_of(b"--help", 2)
+    yield [b"a", b"--version"], told_of(b"--version", 2)
+    yield [b"a", b"1", b"x"], told_of(b"x", 3)
+    yield [b"a", b"1", b"0", b"x", b"y"], told_of(b"x", 4)
+    yield [b"a", b"1", b"0", b"1", b"2"], b"formula: the low end '2' has no high end (argument 5): see formula --help\n"
+    yield [b"a", b""], told_of(b"", 2)
+    yield [b"a", b"1\n2"], told_of(b"1?2", 2)
+    yield [b"a", b"\x1b[1m\xff"], told_of(b"?[1m?", 2)
+    yield [b"a", b"x" * 40], told_of(b"x" * 40, 2)
+    yield [b"a", b"x" * 41], told_of(b"x" * 37 + b"...", 2)
+    yield [b"a", b"x" * 100_000], told_of(b"x" * 37 + b"...", 2)
+
+
+def failing(words, what):
+    """Onto a device that is full, and onto no output at all."""
+    with open("/dev/full", "wb") as full:
+        done = subprocess.run([FORMULA, *words], stdout=full, stderr=subprocess.PIPE)
+    yield f"{shown(words)} onto /dev/full", (b"formula: cannot write the %s: No space left on device\n" % what, 1), (done.stderr, done.returncode)
+    done = subprocess.run(["sh", "-c", 'exec "$0" "$@" >&-', FORMULA, *words], stderr=subprocess.PIPE)
+    yield f"{shown(words)}, output closed", (b"formula: cannot write the %s: Bad file descriptor\n" % what, 1), (done.stderr, done.returncode)
 
 
 def piped(words) -> bytes:
@@ -116,9 +148,16 @@ def tests():
     for words in [formula_program.EXAMPLE, [b"7", b"0", b"0", b"1"], *list(formulas())[::40]]:
         sheet_text = formula_program.printed(words)
         yield f"{shown(words)} | ranges", listing.listing(sheet_text), piped(words)
+    for words, line in wrong_words():
+        yield shown(words), (b"", line, 2), run(words)
+    yield "--version", (VERSION, b"", 0), run([b"--version"])
+    help_text, errors, status = run([b"--help"])
+    yield "--help", (True, b"", 0), (all(name in help_text for name in HELP_NAMES), errors, status)
+    for words, what in [(formula_program.EXAMPLE, b"sheet"), ([b"?", b"0"], b"sheet"), ([b"--help"], b"help"), ([b"--version"], b"version")]:
+        yield from failing(words, what)
     with open("/dev/full", "wb") as full:
-        done = subprocess.run([FORMULA, *formula_program.EXAMPLE], stdout=full, stderr=subprocess.PIPE)
-    yield "onto /dev/full", (CANNOT_WRITE, 0), (done.stderr, done.returncode)
+        done = subprocess.run([FORMULA], stdout=subprocess.PIPE, stderr=full)
+    yield "a wrong call, errors onto /dev/full", (b"", 2), (done.stdout, done.returncode)
 
 
 def main() -> int:

@@ -1,20 +1,24 @@
 -- Each number of a product is made from the numbers that are named for its total: products of operands that agree in those agree in it.
-use mathlib.Core.Path.{◌≡◌, refl, ap}
+use mathlib.Core.Path.{◌≡◌, refl, ap, sym, subst}
 use mathlib.Core.Logic.{◌≢◌}
 use mathlib.Core.Bool.{Bool, true, false}
 use mathlib.Core.List.{List, [], map}
 use Prim.Native.Nat.{ℕ, zero, suc}
 use lib.IntN.{ℤ, pos}
 use lib.Seq.{get_or-set_other}
+use Rattle.std.specs.Prelude.{Result, Ok, Err, IfOk}
+use Rattle.affine.specs.declared.Made.{Made}
+use Rattle.affine.specs.declared.NoRow.{NoRow}
 use Rattle.affine.specs.declared.Row.{Row}
-use Rattle.affine.specs.Answer.{Accepted}
+use Rattle.affine.specs.Answer.{Answer, Accepted}
 use Rattle.affine.specs.Limits.{symbols, pairs}
 use Rattle.affine.specs.Lists.{pick, at, tabulate}
 use Rattle.affine.specs.PairOrder.{in_use}
 use Rattle.affine.specs.Row.{form_range}
 use Rattle.affine.specs.Steps.{checked}
-use Rattle.affine.specs.Product.{linear_totals, pair_totals, product_row}
-use Rattle.affine.specs.Agreement.{Place, centre, symbol, pair, number_at, named, AgreeAt, NumbersAgree}
+use Rattle.affine.specs.Told.{answer_of}
+use Rattle.affine.specs.Product.{linear_totals, pair_totals, product_row, product}
+use Rattle.affine.specs.Agreement.{Place, centre, symbol, pair, number_at, named, AgreeAt, NumbersAgree, ProductsAgree}
 use Rattle.affine.proofs.Answers.{checked_accepted}
 
 -- the row of an accepted answer is the row that was tested
@@ -45,6 +49,15 @@ module _ (x y x' y' : Row) where
       simp get_or-set_other (at_mapped _ symbols _ _ i (cc))
   rows_agree squares own (pair k) d h h' = at_mapped _ pairs _ _ k (chosen_agree (in_use squares k) _ (λ h h'. cc) h h')
 
-pub numbers_agree : NumbersAgree
-numbers_agree squares own x y x' y' s s' p d h h' =
+-- of any two accepted products
+pub products_agree : ProductsAgree
+products_agree squares own x y s =
+    λ x' y' s' p d h h'.
     rw (accepted_row_lem (product_row squares own x y) s, accepted_row_lem (product_row squares own x' y') s') (rows_agree x y x' y' squares own p d h h')
+
+-- of a result that tells the product's answer
+pub numbers_agree : (squares own : ℕ) (x y : Row) (a : Result Made NoRow) → answer_of a ≡ product squares own x y
+    → IfOk a (λ made. NumbersAgree squares own x y made.row)
+numbers_agree squares own x y (Ok m) e =
+    subst (NumbersAgree squares own x y) (ap (λ (b : Answer). b.row) (sym e)) (products_agree squares own x y (ap (λ (b : Answer). b.status) (sym e)))
+numbers_agree squares own x y (Err w) e = tt

@@ -2,7 +2,7 @@
 use mathlib.Core.Path.{◌≡◌, ap}
 use mathlib.Core.Logic.{◌≢◌}
 use Prim.Native.Nat.{ℕ, suc, ◌+◌, ◌*◌, ◌≤◌, ◌<◌}
-use native.Mathlib.Nat.{mul_assoc, add-mul, mul-lt-mul_of_pos_left, mul-zero, lt_of_mul-lt-mul_right}
+use native.Mathlib.Nat.{mul_assoc, add-mul, mul-pos, lt_of_mul-lt-mul_right}
 use native.Mathlib.Omega.{arith}
 use lib.IntN.{ℤ, pos, neg_ℤ, nat_abs, ◌+ℤ◌, ◌-ℤ◌, ◌*ℤ◌, +ℤ_idl}
 use mir.Syntax.{w64}
@@ -14,14 +14,11 @@ use Rattle.integer.proofs.Floor.{nat_abs_quotient, nat_abs_quotient_product}
 use Rattle.affine.specs.Limits.{unit_squared, span_limit}
 use Rattle.affine.specs.Reciprocal.{slope}
 
-product_positive : {m n : ℕ} → 0 < m → 0 < n → 0 < m * n
-product_positive {m} {n} p q = rw mul-zero at (mul-lt-mul_of_pos_left {m = 0} {n = n} {k = m} q p)
-
 pub not_zero : (c : ℤ) → 0 < nat_abs c → c ≢ pos 0
 not_zero c h e = let z = ap nat_abs e in omega arith
 
 pub square_not_zero : (c : ℤ) → 0 < nat_abs c → c *ℤ c ≢ pos 0
-square_not_zero c h = not_zero (c *ℤ c) (rw nat_abs_mul (product_positive h h))
+square_not_zero c h = not_zero (c *ℤ c) (rw nat_abs_mul (mul-pos h h))
 
 -- minus N times v over the square of c; the products that meet in a pair over c; and both together
 pub slope_at_most : (c v : ℤ) {n : ℕ} → nat_abs v ≤ n → nat_abs (slope c v) ≤ unit_squared * n

@@ -20,7 +20,7 @@ use Rattle.affine.specs.declared.Row.{Row}
 use Rattle.affine.specs.Limits.{symbols, pairs, unit, span_limit}
 use Rattle.affine.specs.Lists.{tabulate}
 use Rattle.affine.specs.PairOrder.{over_used}
-use Rattle.affine.specs.Row.{span, row_of_parts}
+use Rattle.affine.specs.Row.{span}
 use Rattle.affine.specs.Steps.{map_row, with_own}
 use Rattle.affine.specs.Product.{linear_total, pair_total, totals, dropped, product_rounding, product_own, product_row}
 use Rattle.affine.proofs.RowSize.{span_is_sum}
@@ -69,7 +69,7 @@ module _ (x y : Operand) (s : Symbols) {d l p : ℕ} (c : Part)
       (em : pn ≡ over_used s.squares (divided (pair_total x.row y.row)).number)
       (ev : v ≡ ceiling_quotient (d + c.rest + l + p) unit) where
     abbrev made : Row
-    made = row_of_parts z ln pn
+    made = record { centre = z; linear = ln; pair = pn }
 
     quotients_are : made ≡ map_row product_rounding.quotient (all_totals x y s)
     quotients_are =

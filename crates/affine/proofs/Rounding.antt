@@ -3,14 +3,17 @@
 use mathlib.Core.Path.{◌≡◌, sym, ap, ◌∙◌}
 use Prim.Native.Nat.{◌≤◌, ◌<◌}
 use native.Mathlib.Omega.{arith}
-use lib.IntN.{ℤ, pos, negsuc, nat_abs, ◌+ℤ◌, ◌*ℤ◌, *ℤ_comm}
+use lib.IntN.{ℤ, pos, nat_abs, ◌+ℤ◌, ◌*ℤ◌, *ℤ_comm}
 use Rattle.integer.specs.Nearest.{nearest_quotient, nearest_remainder}
 use Rattle.integer.proofs.Ring.{con, ◌⊕◌, ◌⊗◌}
-use Rattle.integer.proofs.Linear.{lin_ℤ, ◌⊴◌, ◌⊲◌, ◌≗◌, ◌⇒◌, so}
+use Rattle.integer.proofs.Linear.{lin_ℤ, ◌≗◌, ◌⇒◌, so}
 use Rattle.integer.proofs.Absolute.{nat_abs_zero}
-use Rattle.integer.proofs.NearestLaws.{is_nearest, nat_abs_nearest_quotient, nat_abs_nearest_remainder}
+use Rattle.integer.proofs.NearestLaws.{is_nearest, remainder_runs, nat_abs_nearest_quotient, nat_abs_nearest_remainder}
 use Rattle.affine.specs.Limits.{unit}
-use Rattle.affine.specs.Product.{Rounding, product_rounding, RemaindersRun}
+use Rattle.affine.specs.Product.{Rounding, product_rounding, RoundsToNearest, RemaindersRun}
+
+pub rounds_to_nearest : RoundsToNearest
+rounds_to_nearest t = is_nearest t unit (omega arith)
 
 pub record Rounds (ρ : Rounding) : Type 0 where
   pub parts : (t : ℤ) → t ≡ pos unit *ℤ ρ.quotient t +ℤ ρ.remainder t
@@ -20,18 +23,13 @@ pub record Rounds (ρ : Rounding) : Type 0 where
 pub product_rounds : Rounds product_rounding
 product_rounds =
     record {
-      parts = λ t. sym (is_nearest t unit (omega arith)).total ∙ ap (λ q. q +ℤ nearest_remainder t unit) (*ℤ_comm (nearest_quotient t unit) (pos unit));
+      parts = λ t. sym (rounds_to_nearest t).total ∙ ap (λ q. q +ℤ nearest_remainder t unit) (*ℤ_comm (nearest_quotient t unit) (pos unit));
       quotient_within = λ t. nat_abs_nearest_quotient t unit (omega arith);
       remainder_small = λ t. omega (arith, nat_abs_nearest_remainder t unit (omega arith));
     }
 
 pub remainders_run : RemaindersRun
-remainders_run t =
-    let n = is_nearest t unit (omega arith) in
-    let r = nearest_remainder t unit in (
-      lin_ℤ 1 (λ r. con (negsuc 4095) ⊴ con (pos 2) ⊗ r ⇒ so (con (negsuc 2047) ⊴ r)) r (omega arith) n.from,
-      lin_ℤ 1 (λ r. con (pos 2) ⊗ r ⊲ con (pos 4096) ⇒ so (r ⊴ con (pos 2047))) r (omega arith) n.below,
-    )
+remainders_run t = remainder_runs (rounds_to_nearest t)
 
 -- ---- a total of 0
 pub quotient_zero : product_rounding.quotient (pos 0) ≡ pos 0

@@ -10,7 +10,7 @@ use Rattle.affine.specs.declared.Row.{Row}
 use Rattle.affine.specs.Limits.{span_limit}
 use Rattle.affine.specs.Lists.{at}
 use Rattle.affine.specs.Row.{span}
-use Rattle.affine.proofs.RowSize.{centre_within, pair_at_within}
+use Rattle.affine.proofs.RowSize.{centre_within, linear_at_within, pair_at_within}
 
 module _ (r : Row) (h : span r ≤ span_limit) where
   pub centre_fits : SFits w64 r.centre
@@ -18,6 +18,9 @@ module _ (r : Row) (h : span r ≤ span_limit) where
 
   pub read_centre : to_z w64 (of_z w64 r.centre) ≡ r.centre
   read_centre = to_z-of_z w64 r.centre centre_fits
+
+  pub read_linear : (i : ℕ) → to_z w64 (of_z w64 (at r.linear i)) ≡ at r.linear i
+  read_linear i = to_z-of_z w64 (at r.linear i) (fits_within (at r.linear i) span_limit (linear_at_within r h i) (omega arith))
 
   pub read_pair : (k : ℕ) → to_z w64 (of_z w64 (at r.pair k)) ≡ at r.pair k
   read_pair k = to_z-of_z w64 (at r.pair k) (fits_within (at r.pair k) span_limit (pair_at_within r h k) (omega arith))

@@ -2,13 +2,13 @@
 use mathlib.Core.Path.{◌≡◌, ap}
 use Prim.Native.Nat.{ℕ, ◌+◌, ◌≤◌}
 use native.Mathlib.Omega.{arith}
-use mathlib.Core.List.{List, []}
+use mathlib.Core.List.{List}
 use lib.IntN.{ℤ, nat_abs}
 use Rattle.integer.specs.Sum.{sum_abs}
 use Rattle.integer.proofs.Sum.{sum_abs_append, sum_abs_element}
 use Rattle.affine.specs.declared.Row.{Row}
 use Rattle.affine.specs.Lists.{at}
-use Rattle.affine.specs.Row.{row_of_parts, span, radius}
+use Rattle.affine.specs.Row.{span, radius}
 
 pub span_is_sum : (r : Row) → span r ≡ nat_abs r.centre + (sum_abs r.linear + sum_abs r.pair)
 unfolding span
@@ -44,10 +44,6 @@ module _ {n : ℕ} (r : Row) (h : span r ≤ n) where
 
   pub pair_at_within : (k : ℕ) → nat_abs (at r.pair k) ≤ n
   pair_at_within = element_within r.pair pair_within
-
-  -- the row without its pair coefficients
-  pub unpaired_within : span (row_of_parts r.centre r.linear []) ≤ n
-  unpaired_within = omega (arith, span_is_sum r, span_is_sum (row_of_parts r.centre r.linear []))
 
 -- a radius that is told, against the linear coefficients and the span
 pub radius_told : (r : Row) {m n : ℕ} → m ≡ radius r → span r ≤ n → (sum_abs r.linear ≤ m) × (m ≤ n)

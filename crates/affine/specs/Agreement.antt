@@ -30,9 +30,15 @@ unfoldable pub AgreeAt : List Place → Row → Row → Type 0
 AgreeAt [] x y = Unit {0}
 AgreeAt (p ∷ ps) x y = (number_at x p ≡ number_at y p) × AgreeAt ps x y
 
--- The claim; the own symbol is that of the row that is made.
-abbrev pub NumbersAgree : Type 0
-NumbersAgree =
-    (squares own : ℕ) (x y x' y' : Row) → (product squares own x y).status ≡ Accepted → (product squares own x' y').status ≡ Accepted
+-- Of the row that was made of x and y, under a count of squares and with a symbol of its own: any other two rows whose product under these is accepted, and that agree
+-- with x and y in the numbers that are named for a total, have the same number made from that total. The own coefficient is aside: all numbers make it.
+abbrev pub NumbersAgree : ℕ → ℕ → Row → Row → Row → Type 0
+NumbersAgree squares own x y made =
+    (x' y' : Row) → (product squares own x' y').status ≡ Accepted
     → (p : Place) → p ≢ symbol own → AgreeAt (named squares p) x x' → AgreeAt (named squares p) y y'
-    → number_at (product squares own x y).row p ≡ number_at (product squares own x' y').row p
+    → number_at made p ≡ number_at (product squares own x' y').row p
+
+-- The claim, of any rows, count of squares and own symbol; what `multiply` makes, its contract says.
+abbrev pub ProductsAgree : Type 0
+ProductsAgree =
+    (squares own : ℕ) (x y : Row) → (product squares own x y).status ≡ Accepted → NumbersAgree squares own x y (product squares own x y).row

@@ -1,7 +1,7 @@
 -- "What each row becomes": multiply (manual, section 5.7).
 use Rattle.std.specs.Prelude.{List, ℕ, ◌+◌, ◌*◌, ◌-◌, eqb, ℤ, pos, negsuc, ◌+ℤ◌, ◌*ℤ◌, ◌≤ℤ◌, take}
 use Rattle.integer.specs.Floor.{ceiling_quotient}
-use Rattle.integer.specs.Nearest.{nearest_quotient, nearest_remainder}
+use Rattle.integer.specs.Nearest.{nearest_quotient, nearest_remainder, IsNearest}
 use Rattle.integer.specs.Sum.{sum_abs}
 use Rattle.affine.specs.declared.Row.{Row}
 use Rattle.affine.specs.Answer.{Answer}
@@ -60,6 +60,10 @@ product_rounding =
 -- .. and remainders run from -2048 to 2047": a claim, which `remainders_run` in `proofs/Rounding.antt` proves
 abbrev pub RemaindersRun : Type 0
 RemaindersRun = (t : ℤ) → (negsuc 2047 ≤ℤ product_rounding.remainder t) × (product_rounding.remainder t ≤ℤ pos 2047)
+
+-- a claim of every total, which `rounds_to_nearest` there proves: quotient and remainder are the pair of division to the nearest, exact halves upward
+abbrev pub RoundsToNearest : Type 0
+RoundsToNearest = (t : ℤ) → IsNearest t unit (product_rounding.quotient t) (product_rounding.remainder t)
 
 -- "Own coefficient: (dropped part + all remainders) / 4096, up." "their absolute values are summed"
 unfoldable pub product_own : ℕ → Row → Row → ℕ

@@ -11,10 +11,6 @@ use Rattle.affine.specs.PairOrder.{is_square}
 abbrev pub numbers : Row → List ℤ
 numbers r = r.centre ∷ (r.linear ++ r.pair)
 
--- a row of its parts
-abbrev pub row_of_parts : ℤ → List ℤ → List ℤ → Row
-row_of_parts c l p = record { centre = c; linear = l; pair = p }
-
 -- "Span: the sum of the absolute values of all .. numbers." (The field's term: the sum of the centre's magnitude and the radius.)
 unfoldable pub span : Row → ℕ
 span r = sum_abs (numbers r)

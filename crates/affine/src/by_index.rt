@@ -12,7 +12,7 @@ use crate::limits::{PAIRED, PAIRS};
 use crate::operands::Pair;
 
 // f at each index. A loop: with `array::from_fn`, which is told call by call, the proof of a row made of two stays open.
-pub fn each<const N: usize, F: Fn(usize) -> i64>(f: F) -> [i64; N]
+pub(crate) fn each<const N: usize, F: Fn(usize) -> i64>(f: F) -> [i64; N]
     requires callable { (i : ℕ) → i < N → F.pre f i }
     ensures given { (i : ℕ) → i < N → F.post f i (at result i) }
     ensures long { length result ≡ N }
@@ -26,7 +26,7 @@ pub fn each<const N: usize, F: Fn(usize) -> i64>(f: F) -> [i64; N]
 
 // What a function gives at an index: a number of a row, and the absolute value of what it leaves.
 #[derive(Clone, Copy)]
-pub struct Part {
+pub(crate) struct Part {
     pub number: i64,
     pub rest: u64,
 }
@@ -34,7 +34,7 @@ pub struct Part {
 impl Part {
     // A number that leaves nothing.
     #[inline]
-    pub fn exact(number: i64) -> Part
+    pub(crate) fn exact(number: i64) -> Part
         ensures { (result.number ≡ number) × (result.rest ≡ 0) }
     {
         Part { number, rest: 0 }
@@ -42,7 +42,7 @@ impl Part {
 
     // A total, of which nothing is taken.
     #[inline]
-    pub fn whole(total: i64) -> Part
+    pub(crate) fn whole(total: i64) -> Part
         ensures { (result.number ≡ total) × (result.rest ≡ nat_abs total) }
     {
         Part {
@@ -55,7 +55,7 @@ impl Part {
 // Puts f at the first indices into zeros, and answers the sum of what the numbers leave. By the index, which f takes:
 // `numbers[..count].iter_mut().enumerate()` gives the same one and is no shorter.
 #[inline]
-pub fn put_front<const N: usize, F: Fn(usize) -> Part>(
+pub(crate) fn put_front<const N: usize, F: Fn(usize) -> Part>(
     numbers: &mut [i64; N],
     count: usize,
     f: F,
@@ -108,7 +108,7 @@ fn put_column<F: Fn(Pair) -> Part>(numbers: &mut [i64; PAIRS], before: u64, j: u
 
 // Puts f at the pairs in use into zeros, and answers the sum of what the numbers leave.
 #[inline]
-pub fn put_pairs_in_use<F: Fn(Pair) -> Part>(
+pub(crate) fn put_pairs_in_use<F: Fn(Pair) -> Part>(
     numbers: &mut [i64; PAIRS],
     squares: usize,
     f: F,

@@ -3,6 +3,7 @@
 // `within_span` and `same_numbers` tell of rows.
 #![tactic(auto)]
 
+pub mod claims; // claims.rt: what is claimed of products
 mod by_index;
 mod form_range;
 pub mod limits;

@@ -27,7 +27,7 @@ pub struct Symbols {
 
 // A pair of symbols, and the index at which it stands.
 #[derive(Clone, Copy)]
-pub struct Pair {
+pub(crate) struct Pair {
     pub first: usize,
     pub second: usize,
     pub index: usize,

@@ -1,10 +1,11 @@
 // The product of two rows.
-ghost use Rattle.std.specs.Prelude.{◌≡◌, [], ℕ, ◌-◌, ◌*◌, ◌≤◌, ◌<◌, nat_abs, ◌+ℤ◌, ◌*ℤ◌, length, take};
+ghost use Rattle.std.specs.Prelude.{◌≡◌, IfOk, ℕ, ◌-◌, ◌*◌, ◌≤◌, ◌<◌, nat_abs, ◌+ℤ◌, ◌*ℤ◌, length, take};
 ghost use Rattle.integer.specs.Sum.{sum_abs};
 ghost use Rattle.affine.specs.Limits.{symbols, paired, span_limit};
 ghost use Rattle.affine.specs.Lists.{at, pick};
-ghost use Rattle.affine.specs.Row.{span, row_of_parts, NoneFrom};
+ghost use Rattle.affine.specs.Row.{span, NoneFrom};
 ghost use Rattle.affine.specs.Product.{meeting, crosswise, linear_total, pair_total, product_rounding, product};
+ghost use Rattle.affine.specs.Agreement.{NumbersAgree};
 ghost use Rattle.affine.specs.Told.{answer_of};
 
 use crate::by_index::{Part, put_front, put_pairs_in_use};
@@ -25,30 +26,14 @@ fn crosswise_total(c: i64, b: i64, d: i64, a: i64) -> i64
     c * b + d * a
 }
 
-// The total of the symbol at index i, from the centres c and d and the linear coefficients a and b of two rows. By parts, as callers outside have them: two rows
-// would ask more, their pairs.
-pub fn linear_total<'a, 'b>(
-    c: i64,
-    a: &'a [i64; SYMBOLS],
-    d: i64,
-    b: &'b [i64; SYMBOLS],
-    i: usize,
-) -> i64
-    requires i_lt_symbols { i < symbols }
-    requires a_bound { (span (row_of_parts c a.now []) ≤ span_limit) × (span (row_of_parts d b.now []) ≤ span_limit) }
-    ensures { result ≡ linear_total (row_of_parts c a.now []) (row_of_parts d b.now []) i }
-{
-    crosswise_total(c, b[i], d, a[i])
-}
-
-// The same of two rows. Their spans stand in clauses here and below: a struct that lends a row with its span was tried, and the check does not cover a call
-// with two of it.
+// The total of the symbol at index i. The spans of two rows stand in clauses here and below: a struct that lends a row with its span was tried, and the check does
+// not cover a call with two of it.
 #[inline]
-pub(crate) fn symbol_total(x: &Row, y: &Row, i: usize) -> i64
+pub(crate) fn linear_total(x: &Row, y: &Row, i: usize) -> i64
     requires { (i < symbols) × (span x.now ≤ span_limit) × (span y.now ≤ span_limit) }
     ensures { result ≡ linear_total x.now y.now i }
 {
-    linear_total(x.centre, &x.linear, y.centre, &y.linear, i)
+    crosswise_total(x.centre, y.linear[i], y.centre, x.linear[i])
 }
 
 // The products of linear coefficients that meet in a pair; square: in a pair (i,i).
@@ -62,7 +47,7 @@ fn meeting_products(ai: i64, bj: i64, aj: i64, bi: i64, square: bool) -> i64
 }
 
 // The products that meet in the pair of symbols i and j, of two rows' coefficients.
-pub fn meeting_at(a: &[i64; SYMBOLS], b: &[i64; SYMBOLS], i: usize, j: usize) -> i64
+pub(crate) fn meeting_at(a: &[i64; SYMBOLS], b: &[i64; SYMBOLS], i: usize, j: usize) -> i64
     requires i_lt_symbols { (i < symbols) × (j < symbols) }
     requires by_index { ((i : ℕ) → nat_abs (at a.now i) ≤ span_limit) × ((i : ℕ) → nat_abs (at b.now i) ≤ span_limit) }
     ensures { result ≡ meeting a.now b.now i j }
@@ -75,7 +60,7 @@ pub fn meeting_at(a: &[i64; SYMBOLS], b: &[i64; SYMBOLS], i: usize, j: usize) ->
 }
 
 // The total of a pair: crosswise as of a symbol, plus the products that meet in the pair.
-pub fn pair_total(x: &Row, y: &Row, p: Pair) -> i64
+pub(crate) fn pair_total(x: &Row, y: &Row, p: Pair) -> i64
     requires { (span x.now ≤ span_limit) × (span y.now ≤ span_limit) }
     ensures { result ≡ pair_total x.now y.now p.index }
 {
@@ -97,7 +82,7 @@ fn divided(total: i64) -> Part
 
 // The radii multiplied, less the same of the first "squares" symbols alone. Two operands in the place of their parts would ask more of callers: the pairs.
 #[tactic(auto, using(integer::proofs::Sum::sum_abs_take, crate::proofs::Magnitude::mul_within))]
-pub fn dropped_part<'a, 'b>(
+pub(crate) fn dropped_part<'a, 'b>(
     a: &'a [i64; SYMBOLS],
     a_radius: u64,
     b: &'b [i64; SYMBOLS],
@@ -115,7 +100,10 @@ pub fn dropped_part<'a, 'b>(
 // The product of two rows. Each total is formed from the two rows as they are, in its place in the new row, and divided at once.
 pub fn multiply(x: Operand, y: Operand, symbols: Symbols) -> Result<Made, NoRow>
     requires { NoneFrom symbols.own x.row.linear × NoneFrom symbols.own y.row.linear }
-    ensures { answer_of result ≡ product symbols.squares symbols.own x.row y.row }
+    ensures value { answer_of result ≡ product symbols.squares symbols.own x.row y.row }
+
+    // on what each number of an accepted product depends
+    ensures agreement { IfOk result (λ made. NumbersAgree symbols.squares symbols.own x.row y.row made.row) }
 {
     let (a, b) = (&x.row, &y.row);
     let centre = divided(a.centre * b.centre);
@@ -123,7 +111,7 @@ pub fn multiply(x: Operand, y: Operand, symbols: Symbols) -> Result<Made, NoRow>
     let linear = put_front(
         &mut row.linear,
         symbols.own,
-        |i| divided(symbol_total(a, b, i)),
+        |i| divided(linear_total(a, b, i)),
     );
     let pair = put_pairs_in_use(
         &mut row.pair,

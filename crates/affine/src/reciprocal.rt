@@ -12,7 +12,7 @@ use crate::by_index::{Part, put_front, put_pairs_in_use};
 use crate::form_range::measure;
 use crate::limits::{SYMBOLS, UNIT_SQUARED};
 use crate::operands::{Operand, Pair, Symbols};
-use crate::product::{dropped_part, meeting_at, pair_total, symbol_total};
+use crate::product::{dropped_part, linear_total, meeting_at, pair_total};
 use crate::quotient::quotient_unless_zero;
 use crate::steps::{check_with_own, constant_row};
 use crate::{Made, NoRow, Range, Row};
@@ -108,7 +108,7 @@ fn error_bound(x: &Operand, z: &Row, z_radius: u64, symbols: Symbols) -> u64
     let linear = put_front(
         &mut totals.linear,
         symbols.own,
-        |i| Part::whole(symbol_total(a, z, i)),
+        |i| Part::whole(linear_total(a, z, i)),
     );
     let pair = put_pairs_in_use(
         &mut totals.pair,

@@ -22,7 +22,7 @@ use crate::by_index::{Part, put_front, put_pairs_in_use};
 use crate::form_range::measure;
 use crate::limits::{HALF_UNIT, PAIRS, UNIT};
 use crate::operands::{Pair, Symbols};
-use crate::product::{dropped_part, pair_total, symbol_total};
+use crate::product::{dropped_part, linear_total, pair_total};
 use crate::quotient::quotient_unless_zero;
 use crate::steps::{check_with_own, constant_row};
 use crate::{Made, NoRow, Range, Row};
@@ -93,7 +93,7 @@ fn linear_miss(x: &Row, z: &Row, i: usize) -> i64
     requires { (i < symbols) × (span x.now ≤ span_limit) × (span z.now ≤ span_limit) }
     ensures { result ≡ linear_miss x.now z.now i }
 {
-    missed(x.linear[i], symbol_total(z, z, i))
+    missed(x.linear[i], linear_total(z, z, i))
 }
 
 // What the total of a pair misses.

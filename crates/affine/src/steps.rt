@@ -10,7 +10,7 @@ use crate::form_range::measure;
 use crate::limits::{PAIRS, SPAN_LIMIT, SYMBOLS};
 use crate::{Made, NoRow, Range, Row};
 
-pub fn constant_row(v: i64) -> Row
+pub(crate) fn constant_row(v: i64) -> Row
     ensures { result ≡ constant_row v }
 {
     Row {
@@ -22,7 +22,7 @@ pub fn constant_row(v: i64) -> Row
 
 // A row that has coefficients of the first symbols alone, so many, and the range of its form as the answer, or the refusal where its span is passed.
 #[inline]
-pub fn check(row: &Row, count: usize) -> Result<Made, NoRow>
+fn check(row: &Row, count: usize) -> Result<Made, NoRow>
     requires none { (count ≤ symbols) × NoneFrom count row.now.linear }
     requires small { span row.now < 2 ^ 64 }
     ensures { answer_of result ≡ checked row.now }

@@ -10,7 +10,7 @@ use crate::limits::SPAN_LIMIT;
 
 // The sum of the absolute values of so many numbers. By a loop: a chain that ends in `sum` takes three instructions more in a multiply.
 #[tactic(auto, using(integer::proofs::Sum::sum_abs_more, integer::proofs::Sum::sum_abs_take))]
-pub fn absolutes(a: &[i64]) -> u64
+pub(crate) fn absolutes(a: &[i64]) -> u64
     requires { sum_abs a.now < 2 ^ 64 }
     ensures { result ≡ sum_abs a.now }
 {

@@ -8,26 +8,27 @@ use native.Mathlib.Omega.{arith}
 use native.Mathlib.Decide.{ℕ_discrete}
 use lib.IntN.{ℤ}
 use lib.ListN.{length}
-use lib.Signed.{◌≤ℤ◌}
-use Rattle.affine.specs.declared.Range.{Range}
 use Rattle.capacity.specs.Limits.{max_rows}
 use Rattle.affine.specs.Limits.{span_limit}
 use Rattle.interval.specs.Interval.{RangeWithin}
 use Rattle.sheet.specs.declared.Schedule.{Schedule}
+use Rattle.std.specs.Prelude.{Result, Ok, Err, OnOk}
+use Rattle.sheet.specs.Answers.{Refusal}
+use Rattle.sheet.specs.Results.{tested}
+use Rattle.sheet.specs.declared.causes.Refused.{Refused}
 use Rattle.sheet.specs.Writing.{test_of}
 use Rattle.sheet.proofs.Passed.{Passed, passed}
 use Rattle.evaluation.specs.Table.{row_width, range_width, table_after, ranges_after, range_at, RowsWithin, RangesOrdered}
 use Rattle.evaluation.specs.Work.{row_count, Worked, evaluated}
 use Rattle.evaluation.specs.Ranges.{answered_ranges}
-use Rattle.evaluation.proofs.Sequence.{get_or_grown}
+use Rattle.evaluation.specs.TablesHeld.{TablesHeld}
 use Rattle.evaluation.proofs.EvaluationEnds.{ends_tested, ends_short, ends_short_ranges, ends_worked}
 use Rattle.evaluation.proofs.Induction.{lt_or_ge}
-use Rattle.evaluation.proofs.OwnRanges.{no_range}
-use Rattle.evaluation.proofs.AnsweredRanges.{next_told, told_up_to, told_at, answered_grown, length_told, told_within}
-use Rattle.evaluation.proofs.NeverEmpty.{told_ordered}
+use Rattle.evaluation.proofs.AnsweredRanges.{told_up_to, told_at, answered_grown, told_within}
+use Rattle.evaluation.proofs.NeverEmpty.{range_put, told_ordered, ranges_ordered}
 use Rattle.evaluation.proofs.RowLines.{rows_few}
 use Rattle.evaluation.proofs.WorkLaws.{rows_up_to, Went, went, Begun}
-use Rattle.evaluation.proofs.WorkedTable.{RowsInto, rows_within, length_ranges_after, range_at_ranges_after}
+use Rattle.evaluation.proofs.WorkedTable.{RowsInto, rows_within}
 
 -- an accepted evaluation passed 3, 4 and 5, had room, and worked all its rows
 pub record AcceptedEvaluation (c : Schedule) (table ranges : List ℤ) : Type 0 where
@@ -84,22 +85,29 @@ module _ (c : Schedule) (table ranges : List ℤ) (e : (evaluated c table ranges
   ranges_told = ap (λ l. ranges_after l ranges) (ap (answered_ranges c) accepted_evaluation.rows ∙ answered_grown c (row_count c))
 
   pub range_left : (i : ℕ) → i < row_count c → range_at left_ranges i ≡ told_at c i
-  range_left i h =
-      ap (λ t. range_at t i) ranges_told ∙ range_at_ranges_after (told_up_to c (row_count c)) ranges i (omega (arith, length_told c (row_count c)))
-      ∙ get_or_grown (next_told c) (row_count c) no_range i h
+  range_left i h = ap (λ t. range_at t i) ranges_told ∙ range_put c (row_count c) ranges i h
 
   -- no low is above its high
-  told_left_ordered : (i : ℕ) → i < row_count c → (told_at c i).low ≤ℤ (told_at c i).high
-  told_left_ordered = told_ordered c accepted_evaluation.pass begun_left
-
   pub ranges_left_ordered : RangesOrdered left_ranges (row_count c)
   ranges_left_ordered =
-      let long = length_told c (row_count c) in
-      record {
-        room = omega (arith, ap length ranges_told, length_ranges_after (told_up_to c (row_count c)) ranges (omega (arith, long, accepted_evaluation.room_ranges)), accepted_evaluation.room_ranges);
-        ordered = λ i h. subst (λ (r : Range). r.low ≤ℤ r.high) (sym (range_left i h)) (told_left_ordered i h);
-      }
+      let a = accepted_evaluation in
+      subst (λ t. RangesOrdered t (row_count c)) (sym ranges_told) (ranges_ordered c a.pass begun_left ranges a.room_ranges)
 
   -- no end is beyond the span limit
   pub ranges_left_within : (i : ℕ) → i < row_count c → RangeWithin span_limit (range_at left_ranges i)
-  ranges_left_within i h = subst (RangeWithin span_limit) (sym (range_left i h)) (told_within c accepted_evaluation.pass i (told_left_ordered i h))
+  ranges_left_within i h = subst (RangeWithin span_limit) (sym (range_left i h)) (let pass = accepted_evaluation.pass in told_within c pass i (told_ordered c pass begun_left i h))
+
+-- what the tables hold that an accepted evaluation left, from its result
+pub held : (c : Schedule) (table ranges : List ℤ) {left left_ranges : List ℤ} (result : Result (Unit {0}) Refused)
+    → tested result ≡ (evaluated c table ranges).refusal → left ≡ table_after (evaluated c table ranges).rows table
+    → left_ranges ≡ ranges_after (answered_ranges c (evaluated c table ranges).rows) ranges → OnOk result (TablesHeld c left left_ranges)
+held c table ranges {left} {left_ranges} (Ok u) answer e f =
+    let z : (evaluated c table ranges).refusal.number ≡ 0 = ap (λ (r : Refusal). r.number) (sym answer) in
+    record {
+      some = omega (arith, (accepted_evaluation c table ranges z).pass.counts.inputs_in.from);
+      few = rows_left_few c table ranges z;
+      rows = subst (λ t. RowsWithin t (row_count c)) (sym e) (rows_left_within c table ranges z);
+      ordered = subst (λ t. RangesOrdered t (row_count c)) (sym f) (ranges_left_ordered c table ranges z);
+      ends_within = λ i h. subst (λ t. RangeWithin span_limit (range_at t i)) (sym f) (ranges_left_within c table ranges z i h);
+    }
+held c table ranges (Err r) answer e f = tt

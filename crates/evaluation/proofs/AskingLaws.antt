@@ -1,10 +1,11 @@
 -- What the answers about rows are made of: the tests 9, 8 and 6 one after another, and what holds of a row that passed them.
 use mathlib.Core.Path.{◌≡◌, refl, sym, ap, ap₂, ◌∙◌, subst}
+use mathlib.Core.Logic.{◌≢◌, ◌↔◌}
 use mathlib.Core.Bool.{Bool, true, false}
-use mathlib.Core.List.{List}
+use mathlib.Core.List.{List, []}
 use Prim.Native.Nat.{ℕ, ◌-◌, ◌*◌, ◌≤◌, min, max}
-use native.Mathlib.Nat.{min-eq_left, max-eq_right}
 use native.Mathlib.Omega.{arith}
+use native.Mathlib.Decide.{ℕ_discrete}
 use borrow.Author.Tests.{eq-eqb, ne_eqb, eqb-true, le-leb, leb-true}
 use lib.Dec.{T, eqb, leb}
 use lib.IntN.{ℤ}
@@ -14,6 +15,7 @@ use Rattle.capacity.specs.Limits.{max_rows}
 use Rattle.affine.specs.Limits.{span_limit}
 use Rattle.affine.specs.Lists.{pick}
 use Rattle.affine.specs.Row.{span, within_span}
+use Rattle.integer.proofs.Machine.{≤ℤ_of_test}
 use Rattle.affine.proofs.Lists.{pick_elim}
 use Rattle.std.specs.Prelude.{Result, Ok, Err, IfOk, IsErrAnd}
 use Rattle.sheet.specs.declared.causes.Refused.{Refused}
@@ -24,10 +26,11 @@ use Rattle.sheet.proofs.Results.{number_some}
 use Rattle.sheet.specs.Causes.{refusal, accepted}
 use Rattle.evaluation.specs.Table.{row_width, range_width, row_part, row_at, range_at, RowsWithin, RangesOrdered}
 use Rattle.evaluation.specs.Work.{table_too_short}
-use Rattle.evaluation.specs.Asking.{no_such_row, is_row, lent_row, lent_range, table_refusal, ranges_refusal, or_else, row_refusal, range_refusal, rows_refusal, range_told, range_of, compared, same_of, part_of}
+use Rattle.evaluation.specs.Asking.{no_such_row, is_row, lent_row, lent_range, table_refusal, ranges_refusal, or_else, row_refusal, range_refusal, rows_refusal, range_told, range_refused, range_of, compared, same_of, part_of, ToldByRange}
+use Rattle.evaluation.proofs.PartLaws.{length_part}
 
 -- ---- tests one after another
-both_true : (s t : Bool) → pick s t false ≡ true → (s ≡ true) × (t ≡ true)
+pub both_true : (s t : Bool) → pick s t false ≡ true → (s ≡ true) × (t ≡ true)
 both_true s t =
     pick_elim (λ (b : Bool). b ≡ true → (s ≡ true) × (t ≡ true)) s t false
     (λ e h. (e, h))
@@ -210,16 +213,14 @@ range_holds table ranges count row e h f k =
     let up_to : row ≤ count = leb-true row count b.1 in
     record { from_one = leb-true 1 row b.0; room = omega arith }
 
-lent_range_accepted : (ranges : List ℤ) (row : ℕ) → (lent_range ranges row).number ≡ 0 → lent_range ranges row ≡ accepted
+lent_range_accepted : (ranges : List ℤ) (row : ℕ) → (lent_range ranges row).number ≡ 0
+    → (lent_range ranges row ≡ accepted) × ((range_at ranges (row - 1)).low ≤ℤ (range_at ranges (row - 1)).high)
 lent_range_accepted ranges row =
-    pick_elim (λ (r : Refusal). r.number ≡ 0 → r ≡ accepted) (le_z (range_at ranges (row - 1)).low (range_at ranges (row - 1)).high) accepted (refusal 6 row)
-    (λ e h. refl)
+    let low = (range_at ranges (row - 1)).low in
+    let high = (range_at ranges (row - 1)).high in
+    pick_elim (λ (r : Refusal). r.number ≡ 0 → (r ≡ accepted) × (low ≤ℤ high)) (le_z low high) accepted (refusal 6 row)
+    (λ e h. (refl, ≤ℤ_of_test e))
     (λ e h. absurd (omega arith))
-
--- "the lower row first"
-pub lower_first : (table : List ℤ) {low high : ℕ} → low ≤ high
-    → or_else (lent_row table low) (lent_row table high) ≡ or_else (lent_row table (min low high)) (lent_row table (max low high))
-lower_first table h = ap₂ (λ (m n : ℕ). or_else (lent_row table m) (lent_row table n)) (sym (min-eq_left h)) (sym (max-eq_right h))
 
 -- ---- a row asked for and not refused
 pub record RowAccepted (table : List ℤ) (count row : ℕ) : Type 0 where
@@ -237,6 +238,7 @@ row_accepted table count row e h =
 pub record RangeAccepted (table ranges : List ℤ) (count row : ℕ) : Type 0 where
   pub answer : range_refusal table ranges count row ≡ accepted
   pub holds : RangeHeld ranges row
+  pub ordered : (range_at ranges (row - 1)).low ≤ℤ (range_at ranges (row - 1)).high
 
 pub range_accepted : (table ranges : List ℤ) (count row : ℕ) {r : Refusal} → r ≡ range_refusal table ranges count row → r.number ≡ 0
     → RangeAccepted table ranges count row
@@ -245,9 +247,11 @@ range_accepted table ranges count row e h =
     let b = or_else_accepted (table_refusal table count (is_row count row)) (or_else (ranges_refusal ranges count) (or_else (lent_row table row) (lent_range ranges row))) (number_of e h) in
     let d = or_else_accepted (ranges_refusal ranges count) (or_else (lent_row table row) (lent_range ranges row)) b.second in
     let f = or_else_accepted (lent_row table row) (lent_range ranges row) d.second in
+    let g = lent_range_accepted ranges row f.second in
     record {
-      answer = b.is_second ∙ d.is_second ∙ f.is_second ∙ lent_range_accepted ranges row f.second;
+      answer = b.is_second ∙ d.is_second ∙ f.is_second ∙ g.0;
       holds = range_holds table ranges count row refl b.first refl d.first;
+      ordered = g.1;
     }
 
 pub record RowsAccepted (table : List ℤ) (count first second : ℕ) : Type 0 where
@@ -267,6 +271,74 @@ rows_accepted table count first second e h =
     let l = table_holds_both table count first second refl b.first in
     record { answer = b.is_second ∙ d.is_second ∙ (lent_accepted table (max first second) d.second).0; holds_first = l.0; holds_second = l.1 }
 
+-- ---- a row that is refused: an empty part, and its range is refused by the same
+refused_part : (table : List ℤ) (count row : ℕ) → ((row_refusal table count row).number ≡ 0 → ⊥) → part_of table count row ≡ []
+unfolding part_of
+refused_part table count row h = sym (refused_answer (row_refusal table count row) (row_part table (row - 1)) (λ r. []) refl h)
+
+accepted_part : (table : List ℤ) (count row : ℕ) → (row_refusal table count row).number ≡ 0 → length (part_of table count row) ≡ row_width
+unfolding part_of
+accepted_part table count row h =
+    let a = (row_accepted table count row refl h).holds in
+    ap length (sym (told_answer (row_refusal table count row) (row_part table (row - 1)) [] refl h))
+    ∙ length_part table (row_width * (row - 1)) row_width (omega (arith, a.from_one, a.room))
+
+-- a row that the table holds is refused by 6 alone
+lent_six : (table : List ℤ) (row : ℕ) → ((lent_row table row).number ≡ 0 → ⊥) → (lent_row table row).number ≡ 6
+lent_six table row =
+    pick_elim (λ (r : Refusal). (r.number ≡ 0 → ⊥) → r.number ≡ 6) (within_span (row_at table (row - 1))) accepted (refusal 6 row)
+    (λ e h. absurd (h refl))
+    (λ e h. refl)
+
+refused_alike : (t l r d : Refusal) → ((l.number ≡ 0 → ⊥) → l.number ≡ 6) → ((or_else t l).number ≡ 0 → ⊥) → ((or_else t l).number ≡ 6 → r ≡ accepted)
+    → or_else t (or_else r (or_else l d)) ≡ or_else t l
+refused_alike t l r d six = by_test (eqb t.number 0)
+  where
+    by_test : (b : Bool) → ((pick b l t).number ≡ 0 → ⊥) → ((pick b l t).number ≡ 6 → r ≡ accepted) → pick b (or_else r (or_else l d)) t ≡ pick b l t
+    by_test true z s = sym (goes_on (or_else l d) (sym (s (six z)))) ∙ sym (refused_answer l d (λ q. q) refl z)
+    by_test false z s = refl
+
+alike : (table ranges : List ℤ) (count row : ℕ) → ((row_refusal table count row).number ≡ 0 → ⊥)
+    → ((row_refusal table count row).number ≡ 6 → range_width * count ≤ length ranges) → range_refusal table ranges count row ≡ row_refusal table count row
+unfolding row_refusal range_refusal
+alike table ranges count row h room =
+    refused_alike (table_refusal table count (is_row count row)) (lent_row table row) (ranges_refusal ranges count) (lent_range ranges row)
+    (lent_six table row) h (λ s. simp (le-leb (range_width * count) (length ranges) (room s)))
+
+told_by_range : (table : List ℤ) (count row : ℕ) → ((row_refusal table count row).number ≡ 0 → ⊥) → ToldByRange table count row
+unfolding range_of
+told_by_range table count row h ranges room =
+    sym (refused_answer (range_refusal table ranges count row) (range_told (range_at ranges (row - 1))) range_refused (sym (alike table ranges count row h room)) h)
+
+-- what the part that is handed back tells
+pub record PartTells (table : List ℤ) (count row : ℕ) (part : List ℤ) : Type 0 where
+  pub whole : (length part ≡ row_width) ↔ (row_refusal table count row ≡ accepted)
+  pub empty : (part ≡ []) ↔ ((row_refusal table count row).number ≢ 0)
+  pub told : (part ≡ []) → ToldByRange table count row
+
+pub part_tells : (table : List ℤ) (count row : ℕ) {part : List ℤ} → part ≡ part_of table count row → PartTells table count row part
+part_tells table count row e = rw e (by_number (ℕ_discrete (row_refusal table count row).number 0))
+  where
+    no_width : (part_of table count row ≡ []) → length (part_of table count row) ≡ 0
+    no_width q = ap length q
+
+    by_number : Dec ((row_refusal table count row).number ≡ 0) → PartTells table count row (part_of table count row)
+    by_number (yes z) =
+        let w = accepted_part table count row z in
+        let some : (part_of table count row ≡ []) → ⊥ = λ q. absurd (let n = no_width q in omega arith) in
+        record {
+          whole = (λ l. (row_accepted table count row refl z).answer, λ a. w);
+          empty = (λ q. absurd (some q), λ d. absurd (d z));
+          told = λ q. absurd (some q);
+        }
+    by_number (no d) =
+        let q = refused_part table count row d in
+        record {
+          whole = (λ l. absurd (let n = no_width q in omega arith), λ a. absurd (d (ap (λ (r : Refusal). r.number) a)));
+          empty = (λ p. d, λ p. q);
+          told = λ p. told_by_range table count row d;
+        }
+
 test_passed : {a b : ℤ} → a ≤ℤ b → le_z a b ≡ true
 test_passed {a} {b} h = by_test (le_z a b) h.le
   where
@@ -284,13 +356,13 @@ module _ (table : List ℤ) (count : ℕ) (few : count ≤ max_rows) (within : R
   row_answered row l h =
       simp (le-leb 1 row l, le-leb row count h, le-leb count max_rows few, le-leb (row_width * count) (length table) within.room) (lent_answered row l h)
 
-  rows_answered : (first second : ℕ) → 1 ≤ first → first ≤ second → second ≤ count → rows_refusal table count first second ≡ accepted
+  rows_answered : (first second : ℕ) → 1 ≤ first → first ≤ count → 1 ≤ second → second ≤ count → rows_refusal table count first second ≡ accepted
   unfolding rows_refusal
-  rows_answered first second l m h =
-      let q = lent_answered first l (omega arith) in
-      let r = lent_answered second (omega arith) h in
-      simp (le-leb 1 first l, le-leb first count (omega arith), le-leb 1 second (omega arith), le-leb second count h, le-leb count max_rows few, le-leb (row_width * count) (length table) within.room)
-      (sym (lower_first table m) ∙ ap₂ or_else q r)
+  rows_answered first second l h m k =
+      let q = lent_answered (min first second) (omega arith) (omega arith) in
+      let r = lent_answered (max first second) (omega arith) (omega arith) in
+      simp (le-leb 1 first l, le-leb first count h, le-leb 1 second m, le-leb second count k, le-leb count max_rows few, le-leb (row_width * count) (length table) within.room)
+      (ap₂ or_else q r)
 
   -- what is told of them
   module _ (ranges : List ℤ) (ordered : RangesOrdered ranges count) where
@@ -310,7 +382,7 @@ module _ (table : List ℤ) (count : ℕ) (few : count ≤ max_rows) (within : R
   unfolding part_of
   part_told_of row l h = rw (row_answered row l h)
 
-  pub same_told_of : (first second : ℕ) → 1 ≤ first → first ≤ second → second ≤ count
+  pub same_told_of : (first second : ℕ) → 1 ≤ first → first ≤ count → 1 ≤ second → second ≤ count
       → same_of table count first second ≡ compared (row_at table (first - 1)) (row_at table (second - 1))
   unfolding same_of
-  same_told_of first second l m h = rw (rows_answered first second l m h)
+  same_told_of first second l h m k = rw (rows_answered first second l h m k)

@@ -1,4 +1,4 @@
--- Demand 3: the induction over rows, put to work on the rows, tables and answers of the contracts. `specs/Demand3.antt` has the statement.
+-- The guarantee: the induction over rows, put to work on the rows, tables and answers of the contracts. `specs/Demand3.antt` has the statement.
 use mathlib.Core.Path.{◌≡◌, refl, sym, ap, ap₂, ◌∙◌, subst}
 use mathlib.Core.Logic.{◌≢◌, ◌↔◌}
 use mathlib.Core.Bool.{Bool, true, false}
@@ -15,20 +15,24 @@ use Rattle.integer.proofs.Bound.{le_cong, le_trans, whole_le}
 use Rattle.integer.proofs.Machine.{≥ℤ_of_test}
 use Rattle.affine.specs.declared.Row.{Row}
 use Rattle.affine.specs.Lists.{pick}
+use Rattle.affine.specs.Row.{same}
 use Rattle.affine.specs.Form.{form_value}
 use Rattle.affine.proofs.Form.{units}
 use Rattle.affine.proofs.Sameness.{same_is_equal}
+use Rattle.std.specs.Prelude.{Result, Ok, Err, OnOk}
 use Rattle.sheet.specs.declared.Schedule.{Schedule}
+use Rattle.sheet.specs.declared.causes.Refused.{Refused}
+use Rattle.sheet.specs.Results.{tested}
 use Rattle.sheet.specs.Causes.{accepted}
 use Rattle.sheet.specs.Lines.{natural, step_at}
-use Rattle.evaluation.specs.Table.{table_after, ranges_after, row_of_numbers, range_of_numbers, row_at, range_at}
+use Rattle.evaluation.specs.Table.{table_after, ranges_after, row_part, row_of_numbers, range_of_numbers, row_at, range_at}
 use Rattle.evaluation.specs.Work.{row_count, evaluated}
 use Rattle.evaluation.specs.Ranges.{row_of, answered_ranges}
 use Rattle.evaluation.specs.Asking.{range_refusal, rows_refusal, range_told, range_refused, range_of, compared, not_compared, same_of}
 use Rattle.evaluation.specs.Answers.{RangeAnswer}
 use Rattle.evaluation.specs.Answers.{SameAnswer}
 use Rattle.evaluation.specs.Values.{in_units, Within, FromMinusOneToOne, exact_value, own_of, symbols_of, found_values, found_value}
-use Rattle.evaluation.specs.Demand3.{InputsWithin, StillHolds, RangeStillHolds, Demand3, Demand3Holds}
+use Rattle.evaluation.specs.Demand3.{InputsWithin, StillHolds, RangeStillHolds, Demand3, Guaranteed}
 use Rattle.evaluation.proofs.Induction.{AtFound}
 use Rattle.evaluation.proofs.WorkLaws.{rows_up_to, Begun}
 use Rattle.sheet.proofs.Passed.{Passed}
@@ -38,7 +42,8 @@ use Rattle.evaluation.proofs.RowEnclosure.{X, own_apart}
 use Rattle.evaluation.proofs.AnsweredRanges.{told_at}
 use Rattle.evaluation.proofs.FoundRows.{path, row_of_lem, own_of_lem, shaped, result, lies_own, lies_told}
 use Rattle.evaluation.proofs.WorkedTable.{RowsInto, row_held}
-use Rattle.evaluation.proofs.AskingLaws.{range_told_of}
+use Rattle.evaluation.proofs.RowParts.{same_by_numbers}
+use Rattle.evaluation.proofs.AskingLaws.{range_told_of, same_told_of}
 use Rattle.evaluation.proofs.AcceptedEvaluation.{accepted_evaluation, begun_left, rows_left, rows_left_few, rows_left_within, range_left, ranges_left_ordered}
 use Rattle.evaluation.proofs.FractionUnits.{scaled, scaled_form, scaled_cong, ≈_of_scaled, within_of_scaled}
 
@@ -70,6 +75,10 @@ record Tables (c : Schedule) (table ranges : List ℤ) (rows : List Row) : Type 
   into : RowsInto c (row_count c) table (table_after rows table)
   told : (i : ℕ) → i < row_count c → range_at (ranges_after (answered_ranges c rows) ranges) i ≡ told_at c i
   answers : (i : ℕ) → i < row_count c → (range_of (table_after rows table) (ranges_after (answered_ranges c rows) ranges) (row_count c) (suc i)).refusal ≡ accepted
+  compares : (i j : ℕ) → i < row_count c → j < row_count c
+      → same_of (table_after rows table) (row_count c) (suc i) (suc j) ≡ compared (row_at (table_after rows table) i) (row_at (table_after rows table) j)
+  agrees : (i j : ℕ) → i < row_count c → j < row_count c
+      → (same (row_at (table_after rows table) i) (row_at (table_after rows table) j) ≡ true) ↔ (row_part (table_after rows table) i ≡ row_part (table_after rows table) j)
 
 tables_left : (c : Schedule) (table ranges : List ℤ) → (evaluated c table ranges).refusal.number ≡ 0 → Tables c table ranges (evaluated c table ranges).rows
 tables_left c table ranges e =
@@ -79,6 +88,15 @@ tables_left c table ranges e =
       answers = λ i h.
           ap (λ (r : RangeAnswer). r.refusal)
           (range_told_of _ (row_count c) (rows_left_few c table ranges e) (rows_left_within c table ranges e) _ (ranges_left_ordered c table ranges e) (suc i) (omega arith) h);
+      compares = λ i j h k.
+          let t = table_after (evaluated c table ranges).rows table in
+          let m : suc i - 1 ≡ i = omega arith in
+          let n : suc j - 1 ≡ j = omega arith in
+          same_told_of t (row_count c) (rows_left_few c table ranges e) (rows_left_within c table ranges e) (suc i) (suc j) (omega arith) h (omega arith) k
+          ∙ ap₂ (λ (p q : ℕ). compared (row_at t p) (row_at t q)) m n;
+      agrees = λ i j h k.
+          let room = (rows_left_within c table ranges e).room in
+          same_by_numbers _ i j (omega arith) (omega arith);
     }
 
 module _ (c : Schedule) (pass : Passed c) (x : ℕ → Fraction) (within : InputsWithin c x) (begun : Begun c (row_count c)) where
@@ -193,12 +211,26 @@ module _ (c : Schedule) (pass : Passed c) (x : ℕ → Fraction) (within : Input
         range_answered = tables.answers;
         in_range = in_range table ranges tables;
         same_values = same_values table ranges tables;
+        same_answered = λ i j h k. ap (λ (r : SameAnswer). r.refusal) (tables.compares i j h k);
+        same_exactly = λ i j h k.
+            let t = table_after rows table in
+            subst (λ (r : SameAnswer). (r.same ≡ true) ↔ (row_part t i ≡ row_part t j)) (sym (tables.compares i j h k)) (tables.agrees i j h k);
       }
 
--- DEMAND 3: of every schedule and lent tables whose evaluation is accepted, and all inputs within their ends.
-pub demand_3 : Demand3Holds
-demand_3 c table ranges e x within =
+-- of every schedule and lent tables whose evaluation is accepted, and all inputs within their ends
+accepted_holds : (c : Schedule) (table ranges : List ℤ) → (evaluated c table ranges).refusal ≡ accepted
+    → let rows = (evaluated c table ranges).rows in Guaranteed c rows (table_after rows table) (ranges_after (answered_ranges c rows) ranges)
+accepted_holds c table ranges e x within =
     let n = ap (λ r. r.number) e in
     let a = accepted_evaluation c table ranges n in
     subst (λ rows. Demand3 c rows (table_after rows table) (ranges_after (answered_ranges c rows) ranges) x) (sym a.rows)
     (holds c a.pass x within (begun_left c table ranges n) table ranges (subst (Tables c table ranges) a.rows (tables_left c table ranges n)))
+
+-- and so of what an accepted call left
+pub guaranteed : (c : Schedule) (table ranges : List ℤ) {left left_ranges : List ℤ} (result : Result (Unit {0}) Refused)
+    → tested result ≡ (evaluated c table ranges).refusal
+    → left ≡ table_after (evaluated c table ranges).rows table
+    → left_ranges ≡ ranges_after (answered_ranges c (evaluated c table ranges).rows) ranges
+    → OnOk result (Guaranteed c (evaluated c table ranges).rows left left_ranges)
+guaranteed c table ranges (Ok u) answer l r = rw (l, r) (accepted_holds c table ranges (sym answer))
+guaranteed c table ranges (Err e) answer l r = tt

@@ -1,5 +1,7 @@
 -- The row that a table holds, number by number: where its centre and its coefficients stand; and its part, which is its numbers.
-use mathlib.Core.Path.{◌≡◌, sym, ap, ap₂, ◌∙◌}
+use mathlib.Core.Path.{◌≡◌, sym, ap, ap₂, ◌∙◌, subst}
+use mathlib.Core.Logic.{◌↔◌}
+use mathlib.Core.Bool.{true}
 use mathlib.Core.List.{List, [], ◌∷◌, ◌++◌}
 use Prim.Native.Nat.{ℕ, ◌+◌, ◌*◌, ◌≤◌}
 use native.Mathlib.Omega.{arith}
@@ -10,6 +12,7 @@ use Rattle.affine.specs.declared.Row.{Row}
 use Rattle.affine.specs.Limits.{symbols, pairs}
 use Rattle.affine.specs.Lists.{at}
 use Rattle.affine.specs.Row.{numbers, agree, same}
+use Rattle.affine.proofs.Sameness.{same_exactly}
 use Rattle.evaluation.specs.Table.{row_width, row_part, row_of_numbers, row_at}
 use Rattle.evaluation.proofs.PartLaws.{length_part, get_or_part, part_of_part}
 
@@ -49,3 +52,11 @@ numbers_row_at table i room = numbers_row_of_numbers (row_part table i) (length_
 pub same_by_parts : (table : List ℤ) (i j : ℕ) → row_width * i + row_width ≤ length table → row_width * j + row_width ≤ length table
     → agree (row_part table i) (row_part table j) ≡ same (row_at table i) (row_at table j)
 same_by_parts table i j room room' = sym (ap₂ agree (numbers_row_at table i room) (numbers_row_at table j room'))
+
+-- they are called the same exactly where their numbers agree
+pub same_by_numbers : (table : List ℤ) (i j : ℕ) → row_width * i + row_width ≤ length table → row_width * j + row_width ≤ length table
+    → (same (row_at table i) (row_at table j) ≡ true) ↔ (row_part table i ≡ row_part table j)
+same_by_numbers table i j room room' =
+    subst (λ (xs : List ℤ). (same (row_at table i) (row_at table j) ≡ true) ↔ (xs ≡ row_part table j)) (numbers_row_at table i room)
+    (subst (λ (ys : List ℤ). (same (row_at table i) (row_at table j) ≡ true) ↔ (numbers (row_at table i) ≡ ys)) (numbers_row_at table j room')
+    (same_exactly (row_at table i) (row_at table j)))

@@ -1,5 +1,5 @@
 -- Asking about the rows of lent tables: a range, a comparison, a part of the table. "Asking about rows: 9, 8, 6, the lower row first"
-use Rattle.std.specs.Prelude.{Bool, false, List, [], ℕ, ◌-◌, ◌*◌, min, max, eqb, leb, ℤ, pos, length}
+use Rattle.std.specs.Prelude.{◌≡◌, Bool, false, List, [], ℕ, ◌-◌, ◌*◌, ◌≤◌, min, max, eqb, leb, ℤ, pos, length}
 use Rattle.std.specs.Int.Signed.{le_z}
 use Rattle.affine.specs.declared.Row.{Row}
 use Rattle.affine.specs.declared.Range.{Range}
@@ -85,3 +85,10 @@ same_of table count first second =
 -- "A row asked for is handed back as a part of the lent table itself. Where it is refused the part is empty"
 unfoldable pub part_of : List ℤ → ℕ → ℕ → List ℤ
 part_of table count row = pick (eqb (row_refusal table count row).number 0) (row_part table (row - 1)) []
+
+-- Asking for the range of a row that is refused tells the refusal of the row itself: with any second table where it is 9 or 8, and where it is 6 with one
+-- that is long enough for the count.
+abbrev pub ToldByRange : List ℤ → ℕ → ℕ → Type 0
+ToldByRange table count row =
+    (ranges : List ℤ) → ((row_refusal table count row).number ≡ 6 → range_width * count ≤ length ranges)
+    → range_of table ranges count row ≡ range_refused (row_refusal table count row)

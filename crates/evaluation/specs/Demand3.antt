@@ -1,4 +1,4 @@
--- Demand 3, as one statement about the whole sheet. `proofs/Demand3.antt` proves it of every accepted evaluation.
+-- The guarantee (manual, section 4.6), as one statement about the whole sheet: what every accepted `evaluate` ensures.
 use Rattle.std.specs.Prelude.{◌≡◌, ◌≢◌, ◌↔◌, true, List, ℕ, suc, ◌-◌, ◌<◌, ℤ, pos}
 use Rattle.integer.specs.Fraction.{Fraction, ◌≈◌, ◌<ℚ◌, whole}
 use Rattle.affine.specs.declared.Row.{Row}
@@ -6,9 +6,9 @@ use Rattle.affine.specs.Form.{form_value}
 use Rattle.sheet.specs.declared.Schedule.{Schedule}
 use Rattle.sheet.specs.Causes.{accepted}
 use Rattle.sheet.specs.Lines.{natural, ends_at, step_at}
-use Rattle.evaluation.specs.Table.{row_part, range_part, table_after, ranges_after}
-use Rattle.evaluation.specs.Work.{row_count, evaluated}
-use Rattle.evaluation.specs.Ranges.{row_of, answered_ranges}
+use Rattle.evaluation.specs.Table.{row_part, range_part}
+use Rattle.evaluation.specs.Work.{row_count}
+use Rattle.evaluation.specs.Ranges.{row_of}
 use Rattle.evaluation.specs.Asking.{range_of, same_of}
 use Rattle.evaluation.specs.Values.{in_units, Within, FromMinusOneToOne, exact_value, own_of, found_value}
 
@@ -47,9 +47,12 @@ pub record Demand3 (c : Schedule) (rows : List Row) (left left_ranges : List ℤ
   pub same_values : (i j : ℕ) → i < row_count c → j < row_count c → (lent : List ℤ) → StillHolds left lent i → StillHolds left lent j
       → (count : ℕ) → (same_of lent count (suc i) (suc j)).refusal ≡ accepted → (same_of lent count (suc i) (suc j)).same ≡ true
       → exact_value c x i ≈ exact_value c x j
+  -- comparing any two rows of the table left is accepted ..
+  pub same_answered : (i j : ℕ) → i < row_count c → j < row_count c → (same_of left (row_count c) (suc i) (suc j)).refusal ≡ accepted
+  -- .. and says yes exactly where all numbers of both agree
+  pub same_exactly : (i j : ℕ) → i < row_count c → j < row_count c
+      → ((same_of left (row_count c) (suc i) (suc j)).same ≡ true) ↔ (row_part left i ≡ row_part left j)
 
--- The claim: of every schedule and lent tables whose evaluation is accepted, and all inputs within their ends.
-abbrev pub Demand3Holds : Type 0
-Demand3Holds =
-    (c : Schedule) (table ranges : List ℤ) → (evaluated c table ranges).refusal ≡ accepted → (x : ℕ → Fraction) → InputsWithin c x
-    → let rows = (evaluated c table ranges).rows in Demand3 c rows (table_after rows table) (ranges_after (answered_ranges c rows) ranges) x
+-- Whatever the inputs are within their ends, of the rows worked and the tables left.
+abbrev pub Guaranteed : Schedule → List Row → List ℤ → List ℤ → Type 0
+Guaranteed c rows left left_ranges = (x : ℕ → Fraction) → InputsWithin c x → Demand3 c rows left left_ranges x

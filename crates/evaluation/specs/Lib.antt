@@ -5,7 +5,9 @@ pub mod Operation
 pub mod Answers
 pub mod Asking
 pub mod Values
+pub mod TablesHeld
 pub mod Demand3
 pub mod Roots
 pub mod NeverEmpty
 pub mod Unused
+pub mod Examples

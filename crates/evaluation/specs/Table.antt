@@ -61,16 +61,22 @@ table_after rows table = after row_width numbers rows table
 abbrev pub ranges_after : List Range → List ℤ → List ℤ
 ranges_after told ranges = after range_width range_numbers told ranges
 
--- ---- what the code reads: the first n rows of a table, each within the span limit, and their ranges (not of the specification)
+-- The first n rows of a table, each within the span limit: such a row is not refused.
+pub record RowsWithin (table : List ℤ) (n : ℕ) : Type 0 where
+  pub room : row_width * n ≤ length table
+  pub spans : (i : ℕ) → i < n → span (row_at table i) ≤ span_limit
+
+-- The first n ranges of a second table, no low above its high: such a range is not refused.
+pub record RangesOrdered (ranges : List ℤ) (n : ℕ) : Type 0 where
+  pub room : range_width * n ≤ length ranges
+  pub ordered : (i : ℕ) → i < n → (range_at ranges i).low ≤ℤ (range_at ranges i).high
+
+-- ---- what the code reads: the first n rows of a table and their ranges (not of the specification)
 unfoldable pub rows_in : List ℤ → ℕ → List Row
 rows_in table n = tabulate n (row_at table)
 
 unfoldable pub ranges_in : List ℤ → ℕ → List Range
 ranges_in ranges n = tabulate n (range_at ranges)
-
-pub record RowsWithin (table : List ℤ) (n : ℕ) : Type 0 where
-  pub room : row_width * n ≤ length table
-  pub spans : (i : ℕ) → i < n → span (row_at table i) ≤ span_limit
 
 -- what a product or a reciprocal asks of its operands besides: no coefficient of a later row's symbol, and the radius of each row, in a list beside the tables
 pub record Operands (table : List ℤ) (radii : List ℕ) (n : ℕ) : Type 0 where
@@ -81,8 +87,3 @@ pub record Operands (table : List ℤ) (radii : List ℕ) (n : ℕ) : Type 0 whe
 pub record RangesOf (table ranges : List ℤ) (n : ℕ) : Type 0 where
   pub room : range_width * n ≤ length ranges
   pub centred : (i : ℕ) → i < n → Centred (range_at ranges i) (row_at table i)
-
--- ranges of which no low is above its high
-pub record RangesOrdered (ranges : List ℤ) (n : ℕ) : Type 0 where
-  pub room : range_width * n ≤ length ranges
-  pub ordered : (i : ℕ) → i < n → (range_at ranges i).low ≤ℤ (range_at ranges i).high

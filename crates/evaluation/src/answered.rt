@@ -1,7 +1,7 @@
 // The answered ranges of rows: the overlap of each row's own range with its plain one.
 ghost use Rattle.std.specs.Prelude.{◌≡◌, ◌-◌, ◌*◌, ◌≤◌, length};
 ghost use Rattle.sheet.specs.Lines.{natural};
-ghost use Rattle.sheet.proofs.Passed.{Passed};
+ghost use Rattle.sheet.specs.Passed.{Passed};
 ghost use Rattle.evaluation.specs.Table.{range_width, range_at, ranges_in, ranges_after};
 ghost use Rattle.evaluation.specs.Work.{row_count, worked};
 ghost use Rattle.evaluation.specs.Ranges.{own_ranges, plain_step, answered_ranges, PlainOperands};

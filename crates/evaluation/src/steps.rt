@@ -1,7 +1,7 @@
 // The row of a step, made from the rows before it.
 ghost use Rattle.std.specs.Prelude.{◌≡◌};
 ghost use Rattle.affine.specs.Told.{answer_of};
-ghost use Rattle.sheet.proofs.Passing.{StepPassed};
+ghost use Rattle.sheet.specs.Passed.{StepPassed};
 ghost use Rattle.evaluation.specs.Table.{rows_in, ranges_in};
 ghost use Rattle.evaluation.specs.Work.{step_answer};
 

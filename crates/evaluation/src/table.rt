@@ -51,7 +51,7 @@ fn row_of_numbers(numbers: &[i64]) -> Row
 
 // Row k, copied out.
 #[inline]
-pub fn get_row(table: &[i64], k: usize) -> Row
+pub(crate) fn get_row(table: &[i64], k: usize) -> Row
     requires { row_width * k + row_width ≤ length table.now }
     ensures { result ≡ row_at table.now k }
 {
@@ -71,7 +71,7 @@ fn put_numbers(dst: &mut [i64], at: usize, src: &[i64])
 
 // The numbers of a row stand in three places: to be put as one part, like a range's, they would be copied together first.
 #[inline]
-pub fn put_row(table: &mut [i64], k: usize, row: &Row)
+pub(crate) fn put_row(table: &mut [i64], k: usize, row: &Row)
     requires { row_width * k + row_width ≤ length table.old }
     ensures { table.new ≡ paste table.old (row_width * k) (numbers row.now) row_width }
 {
@@ -96,7 +96,7 @@ pub fn get_range(ranges: &[i64], k: usize) -> Range
 
 // Puts the range of row k.
 #[inline]
-pub fn put_range(ranges: &mut [i64], k: usize, r: Range)
+pub(crate) fn put_range(ranges: &mut [i64], k: usize, r: Range)
     requires { range_width * k + range_width ≤ length ranges.old }
     ensures { ranges.new ≡ paste ranges.old (range_width * k) (range_numbers r) range_width }
 {

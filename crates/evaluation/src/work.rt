@@ -4,7 +4,7 @@ ghost use Rattle.std.specs.Prelude.{◌≡◌, ◌*◌, ◌≤◌, ◌<◌, leng
 ghost use Rattle.affine.specs.Steps as affine_steps;
 ghost use Rattle.affine.specs.Told.{status_of, answer_of};
 ghost use Rattle.sheet.specs.Results.{number, tested};
-ghost use Rattle.sheet.proofs.Passed.{Passed};
+ghost use Rattle.sheet.specs.Passed.{Passed};
 ghost use Rattle.evaluation.specs.Table.{row_width, range_width, rows_in, ranges_in, table_after, ranges_after};
 ghost use Rattle.evaluation.specs.Ranges.{own_ranges, operand_ranges};
 ghost use Rattle.evaluation.specs.Work.{row_count, row_answer, worked};

@@ -1,1 +1,5 @@
+pub mod Legible
 pub mod Printing
+pub mod WordLaws
+pub mod NumberLaws
+pub mod CallEnds

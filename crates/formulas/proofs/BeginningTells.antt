@@ -11,7 +11,6 @@ use Rattle.sheet.specs.Lines.{natural}
 use Rattle.formulas.specs.Limits.{max_text}
 use Rattle.formulas.specs.Reading.{Outcome, no_formula, tree, reading, start, too_long, formula_of}
 use Rattle.formulas.specs.Answer.{text_answer, answer_of}
-use Rattle.formulas.specs.Claims.{BeginningTells}
 use Rattle.formulas.specs.declared.InputBlock.{InputBlock}
 
 -- a text over 200 bytes
@@ -32,5 +31,5 @@ cut_long block s n g h =
     long inputs (take n s) (omega (arith, length-take n s)) ∙ rw (take-take max_text n s (omega arith)) in
     rw (e, long inputs s h, text_apart block (take n s) s (reading inputs 1 start (take max_text s)))
 
-pub beginning_tells : BeginningTells
+pub beginning_tells : (block : InputBlock) (s : List ℕ) (n : ℕ) → max_text < n → answer_of block (take n s) ≡ answer_of block s
 beginning_tells block s n g = elim (dec_le (length s) max_text) [ yes h ↦ rw (take_all n s (omega arith)) | no h ↦ cut_long block s n g (omega arith) ]

@@ -9,12 +9,17 @@ pub mod Sound
 pub mod Begun
 pub mod Judged
 pub mod InputsPass
+pub mod AnswerCases
 pub mod PlaceOf10
+pub mod Refusals
 pub mod AcceptsExactly
 pub mod BeginningTells
 pub mod StepLaws
 pub mod SchedulePasses
 pub mod SameValue
+pub mod Divides
+pub mod CallClaims
+pub mod AnswerSize
 pub mod DigitRuns
 pub mod LiteralReads
 pub mod SignTurns

@@ -1,7 +1,7 @@
--- No literal beyond the limits is found in a formula exactly if its tree has none.
-use mathlib.Core.Path.{◌≡◌, refl, ap₂, ◌∙◌}
+-- What is found byte by byte is the first literal of the grammar that is beyond the limits, and nothing is found exactly if the tree has none.
+use mathlib.Core.Path.{◌≡◌, refl, ap, ap₂, ◌∙◌}
 use mathlib.Core.Logic.{◌↔◌}
-use mathlib.Core.Bool.{true, false}
+use mathlib.Core.Bool.{Bool, true, false, cond}
 use mathlib.Core.List.{List, [], ◌∷◌, ◌++◌, append_assoc, append-nil}
 use Prim.Native.Nat.{ℕ, suc, ◌+◌, ◌≤◌, ◌<◌}
 use native.Mathlib.Nat.{add-suc}
@@ -10,13 +10,16 @@ use native.Mathlib.Omega.{arith}
 use borrow.Author.Tests.{lt-ltb, le-ltb, ltb-true, ltb-false}
 use lib.Dec.{ltb, lit≤}
 use lib.ListN.{length, get_or}
+use Rattle.std.specs.Prelude.{Some, find, All}
+use Rattle.std.proofs.lemmas.List.Elements.{All-nil, All-cons, All-head, All-tail, All-append}
 use Rattle.sheet.specs.Choice.{pick}
 use Rattle.sheet.specs.Limits.{end_limit}
 use Rattle.sheet.specs.Number.{digit_of}
 use Rattle.sheet.proofs.Choice.{pick_elim}
-use Rattle.formulas.specs.Grammar.{Tree, byte_of, Numeral, Text, letter_text, literal_text, brackets, alone, joined, Formula}
+use Rattle.formulas.specs.Grammar.{Tree, byte_of, Numeral, Text, letter_text, literal_text, brackets, alone, joined, Formula, Literal, literals_of}
 use Rattle.formulas.specs.Steps.{LiteralsWithin}
 use Rattle.formulas.specs.Answer.{front_value, first_beyond}
+use Rattle.formulas.specs.Claims.{is_beyond}
 use Rattle.formulas.proofs.Places.{end_joined, end_brackets}
 use Rattle.formulas.proofs.ByteTokens.{digit_of_lem, letter_no_digit, sign_no_digit}
 use Rattle.formulas.proofs.Numerals.{through_digits, numeral_front, front_value_lem}
@@ -58,18 +61,38 @@ beyond_numeral {s} x place rest h =
 
 -- ---- texts
 
--- nothing beyond the limits is found from a place on
-abbrev Clear : ℕ → List ℕ → Type 0
-Clear place l = first_beyond place false l ≡ 0
+-- the place of the first of these literals that is beyond the limits, or what is found behind them
+beyond_in : List Literal → ℕ → ℕ
+beyond_in [] z = z
+beyond_in (l ∷ ls) z = pick (is_beyond l) l.place (beyond_in ls z)
 
--- what a text adds to what follows it
-abbrev Adds : List ℕ → Tree → Type 0
-Adds s t =
-    (place : ℕ) (rest : List ℕ) → 0 < place → 10 ≤ digit_of (get_or rest 0 0)
-    → Clear place (s ++ rest) ↔ (LiteralsWithin t × Clear (place + length s) rest)
+beyond_in-append : (ls ms : List Literal) (z : ℕ) → beyond_in (ls ++ ms) z ≡ beyond_in ls (beyond_in ms z)
+unfolding beyond_in
+beyond_in-append [] ms z = refl
+beyond_in-append (l ∷ ls) ms z = ap (pick (is_beyond l) l.place) (beyond_in-append ls ms z)
 
-numeral_adds : (place v w : ℕ) → 0 < place → (pick (ltb end_limit v) place w ≡ 0) ↔ ((v ≤ end_limit) × (w ≡ 0))
-numeral_adds place v w some =
+text_beyond : {inputs r k : ℕ} {s : List ℕ} {t : Tree} (x : Text inputs r k s t) (place : ℕ) (rest : List ℕ) → 10 ≤ digit_of (get_or rest 0 0)
+    → first_beyond place false (s ++ rest) ≡ beyond_in (literals_of place x) (first_beyond (place + length s) false rest)
+unfolding literals_of beyond_in
+text_beyond (letter_text {i} h) place rest behind = rw (beyond_other place (97 + i) rest (letter_no_digit i), add-one) refl
+text_beyond (literal_text x) place rest behind = beyond_numeral x place rest behind
+text_beyond (brackets {s} x) place rest behind =
+    rw (beyond_other place 40 ((s ++ (41 ∷ [])) ++ rest) (lit≤ tt), append_assoc s (41 ∷ []) rest, end_brackets place s)
+    (rw (beyond_other (suc place + length s) 41 rest (lit≤ tt)) at (text_beyond x (suc place) (41 ∷ rest) (lit≤ tt)))
+text_beyond (alone x) place rest behind = text_beyond x place rest behind
+text_beyond (joined {s} {s'} g e x y) place rest behind =
+    let other : 10 ≤ digit_of (byte_of g) = sign_no_digit g in
+    rw (append_assoc s (byte_of g ∷ s') rest, end_joined place s (byte_of g) s', beyond_in-append (literals_of place x) (literals_of (suc (place + length s)) y))
+    (rw (beyond_other (place + length s) (byte_of g) (s' ++ rest) other, text_beyond y (suc (place + length s)) rest behind) at (text_beyond x place (byte_of g ∷ (s' ++ rest)) other))
+
+formula_beyond : {inputs : ℕ} {s : List ℕ} {t : Tree} (x : Formula inputs s t) → first_beyond 1 false s ≡ beyond_in (literals_of 1 x) 0
+unfolding first_beyond
+formula_beyond {s} x = rw append-nil at (text_beyond x 1 [] (lit≤ tt))
+
+-- ---- nothing is found exactly if the tree has none
+
+numeral_clear : (place v w : ℕ) → 0 < place → (pick (ltb end_limit v) place w ≡ 0) ↔ ((v ≤ end_limit) × (w ≡ 0))
+numeral_clear place v w some =
     pick_elim (λ (z : ℕ). (z ≡ 0) ↔ ((v ≤ end_limit) × (w ≡ 0))) (ltb end_limit v) place w
     (λ e. (λ z. absurd (omega arith), λ h. absurd (omega (arith, ltb-true end_limit v e))))
     (λ e. (λ z. (ltb-false end_limit v e, z), λ h. h.1))
@@ -78,25 +101,68 @@ one_after_another : {X Y Z A B : Type 0} → X ↔ (A × Y) → Y ↔ (B × Z) �
 one_after_another x y =
     (λ h. let (a, u) = x.0 h in let (b, z) = y.0 u in ((a, b), z), λ h. x.1 (h.0.0, y.1 (h.0.1, h.1)))
 
-adds : {inputs r k : ℕ} {s : List ℕ} {t : Tree} → Text inputs r k s t → Adds s t
-unfolding LiteralsWithin
-adds (letter_text {i} h) place rest some behind =
-    rw (beyond_other place (97 + i) rest (letter_no_digit i), add-one) (λ h. (tt, h), λ h. h.1)
-adds (literal_text {v} {s} x) place rest some behind =
-    rw (beyond_numeral x place rest behind) (numeral_adds place v _ some)
-adds (brackets {s} x) place rest some behind =
-    rw (beyond_other place 40 ((s ++ (41 ∷ [])) ++ rest) (lit≤ tt), append_assoc s (41 ∷ []) rest, end_brackets place s)
-    (rw (beyond_other (suc place + length s) 41 rest (lit≤ tt)) at (adds x (suc place) (41 ∷ rest) (omega arith) (lit≤ tt)))
-adds (alone x) place rest some behind = adds x place rest some behind
-adds (joined {s} {s'} g e x y) place rest some behind =
-    let other : 10 ≤ digit_of (byte_of g) = sign_no_digit g in
-    rw (append_assoc s (byte_of g ∷ s') rest, end_joined place s (byte_of g) s')
-    (one_after_another
-    (rw (beyond_other (place + length s) (byte_of g) (s' ++ rest) other) at (adds x place (byte_of g ∷ (s' ++ rest)) some other))
-    (adds y (suc (place + length s)) rest (omega arith) behind))
+clear : {inputs r k : ℕ} {s : List ℕ} {t : Tree} (x : Text inputs r k s t) (place z : ℕ) → 0 < place
+    → (beyond_in (literals_of place x) z ≡ 0) ↔ (LiteralsWithin t × (z ≡ 0))
+unfolding literals_of beyond_in LiteralsWithin
+clear (letter_text h) place z some = (λ h. (tt, h), λ h. h.1)
+clear (literal_text {v} x) place z some = numeral_clear place v z some
+clear (brackets x) place z some = clear x (suc place) z (omega arith)
+clear (alone x) place z some = clear x place z some
+clear (joined {s} g e x y) place z some =
+    let behind = literals_of (suc (place + length s)) y in
+    rw (beyond_in-append (literals_of place x) behind z)
+    (one_after_another (clear x place (beyond_in behind z) some) (clear y (suc (place + length s)) z (omega arith)))
 
 pub literals_within : (inputs : ℕ) (s : List ℕ) (t : Tree) → Formula inputs s t → (first_beyond 1 false s ≡ 0) ↔ LiteralsWithin t
-unfolding first_beyond
 literals_within inputs s t x =
-    let whole = adds x 1 [] (lit≤ tt) (lit≤ tt) in
-    rw (← append-nil s) (λ h. (whole.0 h).0, λ h. whole.1 (h, refl))
+    let whole = clear x 1 0 (omega arith) in
+    rw (formula_beyond x) (λ h. (whole.0 h).0, λ h. whole.1 (h, refl))
+
+-- ---- what is found is the first beyond the limits
+
+-- the first of these literals that is beyond the limits has this place
+abbrev FirstAt : List Literal → ℕ → Type 0
+FirstAt ls place = (v : ℕ) × (find is_beyond ls ≡ Some (record { place = place; value = v }))
+
+-- a literal in front of others, by whether it is beyond the limits
+front_first : (b : Bool) (l : Literal) (ls : List Literal) (n : ℕ) → n ≡ pick b l.place (beyond_in ls 0) → (n ≡ beyond_in ls 0 → FirstAt ls n)
+    → (v : ℕ) × (cond b (Some l) (find is_beyond ls) ≡ Some (record { place = n; value = v }))
+front_first true l ls n e f = (l.value, rw e refl)
+front_first false l ls n e f = f e
+
+first_at : (ls : List Literal) (n : ℕ) → n ≡ beyond_in ls 0 → (n ≡ 0 → ⊥) → FirstAt ls n
+unfolding beyond_in
+first_at [] n e h = absurd (h e)
+first_at (l ∷ ls) n e h = front_first (is_beyond l) l ls n e (λ q. first_at ls n q h)
+
+pub beyond_first : {inputs : ℕ} {s : List ℕ} {t : Tree} (x : Formula inputs s t) → (first_beyond 1 false s ≡ 0 → ⊥) → FirstAt (literals_of 1 x) (first_beyond 1 false s)
+beyond_first {s} x h = first_at (literals_of 1 x) (first_beyond 1 false s) (formula_beyond x) h
+
+abbrev HasPlace : Literal → Type 0
+HasPlace l = 0 < l.place
+
+placed : {inputs r k : ℕ} {s : List ℕ} {t : Tree} (x : Text inputs r k s t) (place : ℕ) → 0 < place → All HasPlace (literals_of place x)
+unfolding literals_of
+placed (letter_text h) place some = All-nil HasPlace
+placed (literal_text {v} x) place some = All-cons HasPlace (record { place = place; value = v }) [] some (All-nil HasPlace)
+placed (brackets x) place some = placed x (suc place) (omega arith)
+placed (alone x) place some = placed x place some
+placed (joined {s} g e x y) place some =
+    All-append HasPlace (literals_of place x) (literals_of (suc (place + length s)) y) (placed x place some) (placed y (suc (place + length s)) (omega arith))
+
+-- what is found first is one of them
+front_found : (b : Bool) (f l : Literal) (ls : List Literal) → HasPlace f → (find is_beyond ls ≡ Some l → (beyond_in ls 0 ≡ l.place) × HasPlace l)
+    → cond b (Some f) (find is_beyond ls) ≡ Some l → (pick b f.place (beyond_in ls 0) ≡ l.place) × HasPlace l
+front_found true f l ls h behind e = let q : f ≡ l = cc in rw (← q) (refl, h)
+front_found false f l ls h behind e = behind e
+
+found_at : (ls : List Literal) (l : Literal) → All HasPlace ls → find is_beyond ls ≡ Some l → (beyond_in ls 0 ≡ l.place) × HasPlace l
+unfolding beyond_in
+found_at [] l h e = absurd cc
+found_at (f ∷ ls) l h e = front_found (is_beyond f) f l ls (All-head HasPlace f ls h) (found_at ls l (All-tail HasPlace f ls h)) e
+
+pub first_beyond_lem : {inputs : ℕ} {s : List ℕ} {t : Tree} (x : Formula inputs s t) (l : Literal) → find is_beyond (literals_of 1 x) ≡ Some l
+    → (first_beyond 1 false s ≡ l.place) × HasPlace l
+first_beyond_lem x l e =
+    let f = found_at (literals_of 1 x) l (placed x 1 (omega arith)) e in
+    (formula_beyond x ∙ f.0, f.1)

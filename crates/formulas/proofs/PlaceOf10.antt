@@ -1,24 +1,20 @@
 -- 10 is told exactly at the first wrong place.
 use mathlib.Core.Path.{◌≡◌, refl, ap}
-use mathlib.Core.Bool.{false}
 use mathlib.Core.List.{List, [], append-nil}
 use Prim.Native.Nat.{ℕ, suc, ◌≤◌, ◌<◌}
 use native.Mathlib.Omega.{arith}
-use lib.Dec.{eqb, ltb}
 use lib.ListN.{length, take, drop, take-append-drop}
 use lib.Seq.{take-length, take-take}
-use Rattle.capacity.specs.Limits.{max_steps}
 use Rattle.sheet.specs.Lines.{natural}
-use Rattle.sheet.specs.Answers.{Refusal, ReadAnswer}
-use Rattle.sheet.proofs.Choice.{pick_elim}
+use Rattle.sheet.specs.Answers.{Refusal}
 use Rattle.formulas.specs.Limits.{max_text}
 use Rattle.formulas.specs.Grammar.{Tree, Formula}
 use Rattle.formulas.specs.Reading.{Outcome, no_formula, tree, formula_of}
-use Rattle.formulas.specs.Steps.{step_count}
-use Rattle.formulas.specs.Answer.{no_formula_refusal, first_beyond, text_answer}
-use Rattle.formulas.specs.Claims.{Begins, FirstWrong, wrong_byte, stops_short, goes_on, PlaceOf10}
+use Rattle.formulas.specs.Answer.{no_formula_refusal, refused, text_answer, answer_of}
+use Rattle.formulas.specs.Claims.{Begins, FirstWrong, wrong_byte, stops_short, goes_on, WrongByte}
 use Rattle.formulas.specs.declared.InputBlock.{InputBlock}
 use Rattle.formulas.proofs.InputsPass.{some_input, answer_text}
+use Rattle.formulas.proofs.AnswerCases.{tree_cases, answer_cases}
 use Rattle.formulas.proofs.Begun.{begins_shorter}
 use Rattle.formulas.proofs.Judged.{Judged, judged}
 
@@ -57,25 +53,23 @@ module _ {inputs : ℕ} {s : List ℕ} where
   wrong_judged h (no_formula p) g = ap no_formula (one_place g h)
   wrong_judged h (tree t) g = absurd (right g.0 g.1 h)
 
--- ---- no other refusal has the number 10
+-- ---- it is told, and only it
 
-refused_10 : (block : InputBlock) (s : List ℕ) (place : ℕ) (o : Outcome) → (text_answer block s o).refusal ≡ no_formula_refusal place → o ≡ no_formula place
-refused_10 block s place (no_formula p) e = ap no_formula (ap (λ (r : Refusal). r.place) e)
-refused_10 block s place (tree t) e = absurd (no_10 (ap (λ (r : Refusal). r.number) e))
-  where
-    Not10 : ReadAnswer → Type 0
-    Not10 a = ¬ (a.refusal.number ≡ 10)
+text_wrong : (block : InputBlock) (s : List ℕ) (place : ℕ) (o : Outcome) → Judged (natural block.inputs) s o → (text_answer block s o).refusal ≡ no_formula_refusal place
+    → FirstWrong (natural block.inputs) s place
+text_wrong block s place (no_formula p) j e = let q : p ≡ place = ap (λ (r : Refusal). r.place) e in rw q at j
+text_wrong block s place (tree t) j e =
+    absurd (tree_cases block s t (λ a. ¬ (a.refusal.number ≡ 10)) (λ b n. omega arith) (λ z w n. omega arith) (λ z m k n. omega arith) (ap (λ (r : Refusal). r.number) e))
 
-    no_10 : Not10 (text_answer block s (tree t))
-    no_10 =
-        pick_elim Not10 (eqb (first_beyond 1 false s) 0) _ _
-        (λ _. pick_elim Not10 (eqb (step_count t) 0) _ _ (λ _ e. omega arith) (λ _. pick_elim Not10 (ltb max_steps (step_count t)) _ _ (λ _ e. omega arith) (λ _ e. omega arith)))
-        (λ _ e. omega arith)
-
-pub place_of_10 : PlaceOf10
-place_of_10 block s h place =
+pub place_of_10 : (block : InputBlock) (s : List ℕ) (place : ℕ) → (answer_of block s).refusal ≡ no_formula_refusal place → WrongByte block s place
+place_of_10 block s place =
     let inputs = natural block.inputs in
-    let j = judged inputs (some_input block h) s in (
-      λ e. rw (refused_10 block s place (formula_of inputs s) (rw (answer_text block s h) at e)) at j,
-      λ w. rw (answer_text block s h, wrong_judged w (formula_of inputs s) j),
-    )
+    answer_cases block s (λ a. a.refusal ≡ no_formula_refusal place → WrongByte block s place)
+    (λ h e. record { inputs_pass = h; first = text_wrong block s place (formula_of inputs s) (judged inputs (some_input block h) s) e })
+    (λ a b e. absurd (omega (arith, ap (λ (r : Refusal). r.number) e)))
+
+pub told_at_10 : (block : InputBlock) (s : List ℕ) (place : ℕ) → WrongByte block s place → answer_of block s ≡ refused (no_formula_refusal place)
+told_at_10 block s place w =
+    let inputs = natural block.inputs in
+    let is = wrong_judged w.first (formula_of inputs s) (judged inputs (some_input block w.inputs_pass) s) in
+    rw (answer_text block s w.inputs_pass, is)

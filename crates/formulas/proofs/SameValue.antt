@@ -15,8 +15,7 @@ use Rattle.evaluation.specs.Values.{named_value, exact_step, exact_values, exact
 use Rattle.formulas.specs.Grammar.{Tree, letter, literal, binary}
 use Rattle.formulas.specs.Values.{sign_value, value}
 use Rattle.formulas.specs.Steps.{step_of, sign_steps, sign_count, step_count, row_of, steps_of, schedule_of}
-use Rattle.formulas.specs.Claims.{Accepted, SameValue}
-use Rattle.formulas.proofs.AcceptsExactly.{answers_schedule}
+use Rattle.formulas.specs.Claims.{Accepted}
 use Rattle.formulas.specs.declared.Sign.{Sign}
 use Rattle.formulas.specs.declared.Sign.TheVariants.{Plus, Minus, Times, Over}
 use Rattle.formulas.specs.declared.InputBlock.{InputBlock}
@@ -76,13 +75,10 @@ made block t few x j h =
     let k : n + j - n ≡ j = omega arith in
     step_value c x (n + j) (omega arith) ∙ ap (λ (i : ℕ). exact_step (exact_values c x (n + j)) (step_at c i)) k ∙ ap (exact_step (exact_values c x (n + j))) (step_at_lem block t j few (omega (arith, length_steps n t)))
 
-last_value : (block : InputBlock) (s : List ℕ) (t : Tree) → Accepted block s t → (x : ℕ → Fraction)
+pub last_value : (block : InputBlock) (s : List ℕ) (t : Tree) → Accepted block s t → (x : ℕ → Fraction)
     → exact_value (schedule_of block t) x (row_count (schedule_of block t) - 1) ≡ value x t
 unfolding schedule_of
 last_value block s t a x =
     let n : ℕ = natural block.inputs in
     rw (← last_row n t a.some_step)
     (row_value (schedule_of block t) x n t (omega arith) (letters_below a.formula) (made block t a.few_steps x))
-
-pub same_value : SameValue
-same_value block s t a x = rw (answers_schedule block s t a) (last_value block s t a x)

@@ -1,5 +1,5 @@
 -- The schedule of an accepted formula passes the tests 3, 4 and 5.
-use mathlib.Core.Path.{◌≡◌, refl, sym, ap, ◌∙◌, subst}
+use mathlib.Core.Path.{◌≡◌, refl, sym, ◌∙◌, subst}
 use mathlib.Core.Bool.{true}
 use mathlib.Core.List.{List, [], ◌∷◌}
 use Prim.Native.Nat.{ℕ, suc, ◌+◌, ◌≤◌, ◌<◌}
@@ -7,24 +7,20 @@ use native.Mathlib.Omega.{arith}
 use borrow.Author.Tests.{le-leb, lt-leb}
 use lib.IntN.{ℤ, pos}
 use lib.ListN.{get_or}
-use Rattle.sheet.specs.Choice.{pick}
 use Rattle.capacity.specs.Limits.{max_inputs, max_steps}
 use Rattle.sheet.specs.Limits.{end_limit, last_binary, last_code}
-use Rattle.sheet.specs.Causes.{accepted, count_wrong}
-use Rattle.sheet.specs.Lines.{natural, zero_end, ends_at, step_at, numbers, end_numbers, step_numbers}
-use Rattle.sheet.specs.Tests.{fault, counts_pass, step_passes}
+use Rattle.sheet.specs.Causes.{accepted}
+use Rattle.sheet.specs.Lines.{natural, zero_end, ends_at, step_at}
+use Rattle.sheet.specs.Tests.{counts_pass, ends_pass, step_passes}
 use Rattle.sheet.specs.Writing.{test_of}
 use Rattle.sheet.specs.declared.End.{End}
-use Rattle.sheet.specs.Answers.{Refusal}
 use Rattle.sheet.specs.declared.Step.{Step}
-use Rattle.sheet.specs.declared.Line.TheVariants.{EndLine, StepLine}
 use Rattle.sheet.proofs.Trimmed.{up_to_within}
 use Rattle.formulas.specs.Grammar.{Tree, letter, literal, binary}
 use Rattle.formulas.specs.Steps.{step_of, sign_steps, step_count, row_of, steps_of, LiteralsWithin, schedule_of}
-use Rattle.formulas.specs.Answer.{sheet_of, answer_of}
-use Rattle.formulas.specs.Claims.{Accepted, SchedulePasses}
-use Rattle.formulas.proofs.InputsPass.{few_inputs, number_accepted}
-use Rattle.formulas.proofs.AcceptsExactly.{accepts_exactly, answers_schedule}
+use Rattle.formulas.specs.Answer.{sheet_of}
+use Rattle.formulas.specs.Claims.{Accepted}
+use Rattle.formulas.proofs.InputsPass.{few_inputs}
 use Rattle.formulas.specs.declared.Sign.{Sign}
 use Rattle.formulas.specs.declared.Sign.TheVariants.{Plus, Minus, Times, Over}
 use Rattle.formulas.specs.declared.InputBlock.{InputBlock}
@@ -92,10 +88,6 @@ counts_pass_lem inputs squares n h l = simp (le-leb 1 n h, le-leb n max_steps l)
 
 -- ---- the schedule
 
-step_fault : (j m : ℕ) (t : Step) → Passes m t → fault (StepLine j m) (step_numbers t) ≡ 0
-unfolding fault
-step_fault j m t p = rw p
-
 module _ (block : InputBlock) (s : List ℕ) (t : Tree) (a : Accepted block s t) where
   abbrev n : ℕ
   n = natural block.inputs
@@ -113,19 +105,12 @@ module _ (block : InputBlock) (s : List ℕ) (t : Tree) (a : Accepted block s t)
       (steps_pass n n t (omega arith) (letters_below a.formula) a.literals j (omega (arith, length_steps n t)))
 
   pass : LinesPass (schedule_of block t)
-  unfolding schedule_of sheet_of fault numbers
+  unfolding schedule_of sheet_of
   pass = record {
-    counts = ap (λ b. pick b 0 count_wrong) (counts_pass_lem block.inputs block.squares (step_count t) a.some_step a.few_steps) ∙ tested.counts;
-    ends = λ i h. subst (λ (e : End). fault (EndLine i) (end_numbers e) ≡ 0) (same_ends i h) (tested.ends i h);
-    steps = λ j h. step_fault j (n + j) (step_at (schedule_of block t) j) (each_passes j h);
+    counts = counts_pass_lem block.inputs block.squares (step_count t) a.some_step a.few_steps ∙ tested.counts;
+    ends = λ i h. subst (λ (e : End). ends_pass e.low e.high ≡ true) (same_ends i h) (tested.ends i h);
+    steps = each_passes;
   }
 
-  passes : test_of (schedule_of block t) ≡ accepted
-  passes = lines_accepted (schedule_of block t) pass
-
-pub schedule_passes : SchedulePasses
-schedule_passes block s e = let f = (accepts_exactly block s).0 e in rw (answers_schedule block s f.0 f.1) (passes block s f.0 f.1)
-
--- a refusal's number tells it already
-pub number_passes : (block : InputBlock) (s : List ℕ) → (answer_of block s).refusal.number ≡ 0 → (test_of (answer_of block s).schedule).number ≡ 0
-number_passes block s z = ap (λ (r : Refusal). r.number) (schedule_passes block s (number_accepted block s z))
+  pub schedule_passes : test_of (schedule_of block t) ≡ accepted
+  schedule_passes = lines_accepted (schedule_of block t) pass

@@ -1,5 +1,5 @@
 -- The formulas, as a grammar: which texts they are, and the tree that each of them is. `Claims.antt` says that a text has one tree.
-use Rattle.std.specs.Prelude.{◌≡◌, List, [], ◌∷◌, ◌++◌, ℕ, suc, ◌+◌, ◌*◌, ◌<◌}
+use Rattle.std.specs.Prelude.{◌≡◌, List, [], ◌∷◌, ◌++◌, ℕ, suc, ◌+◌, ◌*◌, ◌<◌, length}
 use Rattle.formulas.specs.Limits.{max_nesting}
 use Rattle.formulas.specs.declared.Sign.{Sign}
 use Rattle.formulas.specs.declared.Sign.TheVariants.{Plus, Minus, Times, Over}
@@ -44,3 +44,16 @@ pub data Text (inputs : ℕ) : (rank nesting : ℕ) → List ℕ → Tree → Ty
 -- A formula, of any length: a sum in which "brackets nest to 16 at most".
 abbrev pub Formula : ℕ → List ℕ → Tree → Type 0
 Formula inputs s t = Text inputs 2 max_nesting s t
+
+-- A literal of a formula: the place of its first byte, counted from 1, and its value.
+pub record Literal : Type 0 where
+  pub place : ℕ
+  pub value : ℕ
+
+-- The literals of a text whose first byte has this place, from the left: each stands where the text has a numeral for an operand.
+unfoldable pub literals_of : {inputs r k : ℕ} {s : List ℕ} {t : Tree} → ℕ → Text inputs r k s t → List Literal
+literals_of place (letter_text h) = []
+literals_of place (literal_text {v = v} x) = record { place = place; value = v } ∷ []
+literals_of place (brackets x) = literals_of (suc place) x
+literals_of place (alone x) = literals_of place x
+literals_of place (joined {s = s} g e x y) = literals_of place x ++ literals_of (suc (place + length s)) y

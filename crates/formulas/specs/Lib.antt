@@ -6,3 +6,4 @@ pub mod Reading
 pub mod Answer
 pub mod Claims
 pub mod Built
+pub mod Examples

@@ -8,20 +8,14 @@ use native.Mathlib.Omega.{arith}
 use lib.IntN.{ℤ, pos, negsuc, neg_ℤ, nat_abs, ◌+ℤ◌, ◌-ℤ◌, ◌*ℤ◌}
 use lib.Signed.{shr_z, ◌≤ℤ◌, ◌<ℤ◌}
 use Rattle.std.specs.Int.{int_rem_euclid}
-use Rattle.integer.specs.Floor.{floor_by, floor_quotient, floor_remainder, ceiling_quotient, UpsAgree}
+use Rattle.integer.specs.Floor.{floor_by, floor_quotient, left_over, IsFloor, floor_remainder, rounded_up, ceiling_quotient}
 use Rattle.integer.proofs.Ring.{con, ◌⊕◌, ◌⊖◌, ◌⊗◌, neg, ◌≐◌}
 use Rattle.integer.proofs.IntegerRing.{ring_ℤ}
 use Rattle.integer.proofs.Linear.{lin_ℤ, ◌⊴◌, ◌⊲◌, ◌≗◌, ◌⇒◌, so}
 use Rattle.integer.proofs.Order.{<ℤ_or-≥ℤ, pos-≤ℤ, pos-<ℤ, ≤ℤ_antisym, product_nonneg, nonneg_of_product}
 use Rattle.integer.proofs.Absolute.{nat_abs_neg, nat_abs_mul, nat_abs_sub, nat_abs_of_nonneg}
 
--- q and r are floor quotient and remainder of a by d
-pub record IsFloor (a d q r : ℤ) : Type 0 where
-  pub total : q *ℤ d +ℤ r ≡ a
-  pub side : pos 0 ≤ℤ (r *ℤ d)
-  pub small : nat_abs r < nat_abs d
-
--- the same but for the remainder's side
+-- as floor quotient and remainder, but for the remainder's side
 pub record Divides (a d q r : ℤ) : Type 0 where
   pub total : q *ℤ d +ℤ r ≡ a
   pub small : nat_abs r < nat_abs d
@@ -136,6 +130,11 @@ floor_unique {a} {d} {q} {r} n f = (same, left f same ∙ sym (left (floor_divid
     left {p} {s} g e =
         lin_ℤ 3 (λ a t s. t ⊕ s ≗ a ⇒ so (s ≗ a ⊖ t)) a (floor_quotient a d *ℤ d) s (omega arith) (subst (λ z. z *ℤ d +ℤ s ≡ a) e g.total)
 
+-- of a number that is the quotient, with what it leaves
+pub floor_as : {a d q : ℤ} → d ≢ pos 0 → q ≡ floor_quotient a d → IsFloor a d q (left_over a d q)
+unfolding floor_remainder
+floor_as {a} {d} n e = subst (λ z. IsFloor a d z (left_over a d z)) (sym e) (floor_divides a d n)
+
 -- ---- magnitudes
 nat_abs_floor_by : (a : ℤ) (m : ℕ) → nat_abs (floor_by a m) ≤ nat_abs a
 nat_abs_floor_by (pos n) m = div-le_self n m
@@ -189,7 +188,7 @@ ceiling_at_most n zero h = elim h [ ]
 ceiling_at_most n (suc d) h = ceiling_least n (suc d) n h (omega arith)
 
 -- of natural numbers both ways to round up are one
-pub ups_agree : UpsAgree
+pub ups_agree : (n d : ℕ) → 0 < d → rounded_up (pos n) (pos d) ≡ pos (ceiling_quotient n d)
 unfolding floor_quotient
 ups_agree zero d h =
     let none : ceiling_quotient 0 d ≡ 0 = omega (arith, ceiling_at_most 0 d h) in
@@ -202,3 +201,6 @@ ups_agree (suc m) d h =
     let u : m / d < ceiling_quotient (suc m) d = lt_of_mul-lt-mul_right d l in
     let v : ceiling_quotient (suc m) d ≤ m / d + 1 = ceiling_least (suc m) d (m / d + 1) h (omega arith) in
     ap pos (omega arith)
+
+pub up_as : (n d : ℕ) {c : ℕ} → 0 < d → c ≡ ceiling_quotient n d → pos c ≡ rounded_up (pos n) (pos d)
+up_as n d h e = ap pos e ∙ sym (ups_agree n d h)

@@ -10,8 +10,8 @@ use native.Mathlib.Nat.{le_refl, mul-le-mul}
 use native.Mathlib.Omega.{arith}
 use lib.IntN.{ℤ, pos, negsuc, neg_ℤ, nat_abs, ◌+ℤ◌, ◌-ℤ◌, ◌*ℤ◌}
 use lib.Signed.{◌≤ℤ◌, ◌<ℤ◌}
-use Rattle.integer.specs.Floor.{floor_quotient}
-use Rattle.integer.specs.Nearest.{half, nearest_quotient, nearest_remainder, IsNearest, QuotientIsNearest, NearestUnique, NoneNearer, HalvesUpward}
+use Rattle.integer.specs.Floor.{floor_quotient, left_over}
+use Rattle.integer.specs.Nearest.{half, nearest_quotient, nearest_remainder, IsNearest}
 use Rattle.integer.proofs.Ring.{con, ◌⊕◌, ◌⊖◌, ◌⊗◌, neg}
 use Rattle.integer.proofs.Linear.{lin_ℤ, ◌⊴◌, ◌⊲◌, ◌≗◌, ◌⇒◌, so}
 use Rattle.integer.proofs.Order.{<ℤ_or-≥ℤ, ≤ℤ_antisym, difference_nonneg, pos-≤ℤ, pos-<ℤ, ≤_of_pos, <_of_pos, product_nonneg}
@@ -30,7 +30,7 @@ halves_reach : (d : ℕ) → d ≤ 2 * half d + 1
 halves_reach d = omega arith
 
 -- by the floor pair of a and half a divisor
-pub is_nearest : QuotientIsNearest
+pub is_nearest : (a : ℤ) (d : ℕ) → 0 < d → IsNearest a d (nearest_quotient a d) (nearest_remainder a d)
 unfolding nearest_quotient nearest_remainder
 is_nearest a d h =
     let b = a +ℤ pos (half d) in
@@ -48,7 +48,7 @@ is_nearest a d h =
     }
 
 -- half a divisor added, any such pair is the floor pair
-pub nearest_unique : NearestUnique
+pub nearest_unique : (a : ℤ) (d : ℕ) (q r : ℤ) → 0 < d → IsNearest a d q r → (q ≡ nearest_quotient a d) × (r ≡ nearest_remainder a d)
 unfolding nearest_quotient nearest_remainder
 nearest_unique a d q r h n =
     let t = floor_quotient (a +ℤ pos (half d)) (pos d) *ℤ pos d in
@@ -72,6 +72,11 @@ nearest_unique a d q r h n =
         })
         ).0
 
+-- of a number that is the quotient, with what it leaves
+pub nearest_as : {a q : ℤ} {d : ℕ} → 0 < d → q ≡ nearest_quotient a d → IsNearest a d q (left_over a (pos d) q)
+unfolding nearest_remainder
+nearest_as {a} {q} {d} h e = subst (λ z. IsNearest a d z (left_over a (pos d) z)) (sym e) (is_nearest a d h)
+
 -- ---- no whole number is nearer
 -- what holds of x and of -x holds of |x|
 of_size : (P : ℤ → Type 0) (x : ℤ) → P x → P (neg_ℤ x) → P (pos (nat_abs x))
@@ -81,7 +86,7 @@ of_size P (negsuc n) h k = k
 module _ {a : ℤ} {d : ℕ} {q r : ℤ} (n : IsNearest a d q r) (p : ℤ) where
   -- what p leaves of a
   abbrev left : ℤ
-  left = a -ℤ p *ℤ pos d
+  left = left_over a (pos d) p
 
   -- p below the quotient leaves one divisor more at least, ..
   below_as_near : p <ℤ q → nat_abs r ≤ nat_abs left
@@ -107,7 +112,7 @@ module _ {a : ℤ} {d : ℕ} {q r : ℤ} (n : IsNearest a d q r) (p : ℤ) where
       (lin_ℤ 6 (λ a d p q r e. con (pos 0) ⊴ (p ⊖ q ⊖ con (pos 1)) ⊗ d ⇒ q ⊗ d ⊕ r ≗ a ⇒ con (pos 0) ⊲ d ⇒ neg e ⊴ a ⊖ p ⊗ d ⇒ so (neg r ⊲ e))
       a (pos d) p q r (pos (nat_abs left)) (omega arith) less n.total (pos-<ℤ h) size))
 
-  none_left_less : 0 < d → nat_abs r ≤ nat_abs left
+  pub none_left_less : 0 < d → nat_abs r ≤ nat_abs left
   none_left_less h = ⊎_elim below_as_near (λ k. ⊎_elim (above k) (λ l. same (≤ℤ_antisym l k)) (<ℤ_or-≥ℤ q p)) (<ℤ_or-≥ℤ p q)
     where
       above : q ≤ℤ p → q <ℤ p → nat_abs r ≤ nat_abs left
@@ -118,14 +123,19 @@ module _ {a : ℤ} {d : ℕ} {q r : ℤ} (n : IsNearest a d q r) (p : ℤ) where
           let s : r ≡ left = lin_ℤ 4 (λ a d q r. q ⊗ d ⊕ r ≗ a ⇒ so (r ≗ a ⊖ q ⊗ d)) a (pos d) q r (omega arith) n.total ∙ ap (λ z. a -ℤ z *ℤ pos d) (sym e) in
           rw s (le_refl (nat_abs left))
 
-pub none_nearer : NoneNearer
-none_nearer a d p h = none_left_less (is_nearest a d h) p h
+  -- of two that are as near, the quotient is the upper one
+  pub not_above : 0 < d → nat_abs left ≡ nat_abs r → p ≤ℤ q
+  not_above h e = ⊎_elim (λ l. absurd (farther l)) (λ k. k) (<ℤ_or-≥ℤ q p)
+    where
+      farther : q <ℤ p → ⊥
+      farther l = let f = above_is_farther h l in omega arith
 
-pub halves_upward : HalvesUpward
-halves_upward a d p h e = ⊎_elim (λ l. absurd (farther l)) (λ k. k) (<ℤ_or-≥ℤ (nearest_quotient a d) p)
-  where
-    farther : nearest_quotient a d <ℤ p → ⊥
-    farther l = let f = above_is_farther (is_nearest a d h) p h l in omega arith
+-- what the quotient by 4096 leaves runs from -2048 to 2047
+pub remainder_runs : {a q r : ℤ} → IsNearest a 4096 q r → (negsuc 2047 ≤ℤ r) × (r ≤ℤ pos 2047)
+remainder_runs {a} {q} {r} n = (
+  lin_ℤ 1 (λ r. con (negsuc 4095) ⊴ con (pos 2) ⊗ r ⇒ so (con (negsuc 2047) ⊴ r)) r (omega arith) n.from,
+  lin_ℤ 1 (λ r. con (pos 2) ⊗ r ⊲ con (pos 4096) ⇒ so (r ⊴ con (pos 2047))) r (omega arith) n.below,
+)
 
 -- ---- magnitudes
 pub nat_abs_nearest_remainder : (a : ℤ) (d : ℕ) → 0 < d → 2 * nat_abs (nearest_remainder a d) ≤ d
@@ -143,7 +153,7 @@ nat_abs_nearest_quotient a d h =
     let q = nearest_quotient a d in
     let r = nearest_remainder a d in
     let k : 0 < d = omega arith in
-    let none : nat_abs r ≤ nat_abs a = subst (λ z. nat_abs r ≤ nat_abs z) (lin_ℤ 2 (λ a d. so (a ⊖ con (pos 0) ⊗ d ≗ a)) a (pos d) (omega arith)) (none_nearer a d (pos 0) k) in
+    let none : nat_abs r ≤ nat_abs a = subst (λ z. nat_abs r ≤ nat_abs z) (lin_ℤ 2 (λ a d. so (a ⊖ con (pos 0) ⊗ d ≗ a)) a (pos d) (omega arith)) (none_left_less (is_nearest a d k) (pos 0) k) in
     let e = lin_ℤ 3 (λ a t r. t ⊕ r ≗ a ⇒ so (a ⊖ r ≗ t)) a (q *ℤ pos d) r (omega arith) (is_nearest a d k).total in
     let whole = rw (e, nat_abs_mul) at (nat_abs_sub a r) in
     let twice : nat_abs q * 2 ≤ nat_abs q * d = mul-le-mul (le_refl (nat_abs q)) (omega arith) in

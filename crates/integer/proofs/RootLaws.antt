@@ -11,7 +11,7 @@ use lib.IntN.{ℤ, pos, negsuc, ◌*ℤ◌}
 use lib.Signed.{◌≤ℤ◌, ◌<ℤ◌}
 use Rattle.integer.specs.Floor.{floor_quotient}
 use Rattle.integer.specs.Fraction.{Fraction, ◌≤ℚ◌, ◌<ℚ◌, whole}
-use Rattle.integer.specs.Root.{IsRoot, one_more, root_in, root, integer_root, floor_root, RootIsRoot, RootUnique, FloorRootIsRoot}
+use Rattle.integer.specs.Root.{IsRoot, one_more, root_in, root, integer_root, floor_root, FloorRootIsRoot}
 use Rattle.integer.proofs.Ring.{con, ◌⊗◌}
 use Rattle.integer.proofs.Linear.{lin_ℤ, ◌⊴◌, ◌⇒◌, so}
 use Rattle.integer.proofs.Order.{pos-≤ℤ, pos-<ℤ, ≤_of_pos, <_of_pos}
@@ -47,12 +47,15 @@ root_in_lem zero (suc m) h = absurd (omega arith)
 root_in_lem (suc k) zero h = record { not_above = omega arith; next_above = omega arith }
 root_in_lem (suc k) (suc m) h = quarter_root (suc m) (root_in k (suc m / 4)) (root_in_lem k (suc m / 4) (omega arith))
 
-pub is_root : RootIsRoot
+pub is_root : (n : ℕ) → IsRoot n (root n)
 unfolding root
 is_root n = root_in_lem n n (omega arith)
 
-pub root_unique : RootUnique
+pub root_unique : (n r : ℕ) → IsRoot n r → r ≡ root n
 root_unique n r h = roots_agree h (is_root n)
+
+pub root_as : {n r : ℕ} → r ≡ root n → IsRoot n r
+root_as {n} e = rw e (is_root n)
 
 -- ---- a search that halves its gap, so many more times: the root lies from r up, below r and 2 to their number
 pub record Gap (n r rounds : ℕ) : Type 0 where

@@ -11,7 +11,7 @@ use lib.ListN.{length, get_or, take, set}
 use lib.Seq.{take-suc}
 use lib.IntN.{ℤ, pos, nat_abs, ◌+ℤ◌, ◌*ℤ◌}
 use Rattle.integer.specs.Fraction.{Fraction, ◌≈◌, whole, ◌*ℚ◌}
-use Rattle.integer.specs.Sum.{sum_abs, add_lists, scale_list, weighted_sum}
+use Rattle.integer.specs.Sum.{sum_abs, weighted_sum}
 use Rattle.integer.proofs.Ring.{CommutativeRing, con, ◌⊕◌, ◌⊖◌, ◌⊗◌, ◌≐◌, ring}
 use Rattle.integer.proofs.Certificate.{OrderedRing}
 use Rattle.integer.proofs.Bound.{Bound, bound_add, bound_mul, bound_cong, bound_whole}
@@ -74,21 +74,6 @@ module _ (𝓡 : CommutativeRing) where
 
   pub dot_cong : (a : List ℤ) {u w : ℕ → C} → ((i : ℕ) → i < length a → u i ~ w i) → dot a u ~ dot a w
   dot_cong a h = dot_same a (λ i l. inr (h i l))
-
-  pub dot_add : (a b : List ℤ) (w : ℕ → C) → dot (add_lists a b) w ~ dot a w ⊹ dot b w
-  unfolding dot
-  dot_add [] b w = sy (z-add _)
-  dot_add (x ∷ a) [] w = ring 𝓡 1 (λ x. x ≐ x ⊕ con (pos 0)) tt _
-  dot_add (x ∷ a) (y ∷ b) w =
-      add_cong (mul_cong (whole_add x y) (rfl _)) (dot_add a b (λ i. w (suc i)))
-      ⨟ ring 𝓡 5 (λ x y v A B. (x ⊕ y) ⊗ v ⊕ (A ⊕ B) ≐ (x ⊗ v ⊕ A) ⊕ (y ⊗ v ⊕ B)) tt _ _ _ _ _
-
-  pub dot_scale : (c : ℤ) (a : List ℤ) (w : ℕ → C) → dot (scale_list c a) w ~ k c · dot a w
-  unfolding dot
-  dot_scale c [] w = ring 𝓡 1 (λ c. con (pos 0) ≐ c ⊗ con (pos 0)) tt _
-  dot_scale c (x ∷ a) w =
-      add_cong (mul_cong (whole_mul c x) (rfl _)) (dot_scale c a (λ i. w (suc i)))
-      ⨟ ring 𝓡 4 (λ c x v A. (c ⊗ x) ⊗ v ⊕ c ⊗ A ≐ c ⊗ (x ⊗ v ⊕ A)) tt _ _ _ _
 
   pub dot_scale_values : (x : C) (a : List ℤ) (w : ℕ → C) → dot a (λ i. x · w i) ~ x · dot a w
   unfolding dot

@@ -1,9 +1,9 @@
 -- Fractions: "A fraction is two whole numbers, the lower part above 0; whether two are equal, or one is below the other, goes by the
 -- cross products." None is reduced. That they are an ordered field is shown in `proofs/Fraction.antt`; nothing else looks inside the
 -- operations, which therefore stay shut.
-use Rattle.std.specs.Prelude.{◌≡◌, ℕ, zero, suc, ◌*◌, ◌<◌, T, ltb, ℤ, pos, negsuc, neg_ℤ, ◌+ℤ◌, ◌*ℤ◌, ◌≤ℤ◌, ◌<ℤ◌}
-use Rattle.std.proofs.Common.{arith, mul-zero, lt→ltb, ltb→lt}
-use Rattle.std.proofs.Math.Nat.{mul-lt-mul_of_pos_left}
+use Rattle.std.specs.Prelude.{◌≡◌, ℕ, zero, suc, ◌*◌, T, ltb, ℤ, pos, negsuc, neg_ℤ, ◌+ℤ◌, ◌*ℤ◌, ◌≤ℤ◌, ◌<ℤ◌}
+use Rattle.std.proofs.Common.{lt→ltb, ltb→lt}
+use Rattle.std.proofs.Math.Nat.{mul-pos, zero-lt-suc}
 use Rattle.std.specs.Int.Signed.{lt_z_yes}
 
 pub record Fraction : Type 0 where
@@ -28,10 +28,7 @@ pub record ◌<ℚ◌ (x y : Fraction) : Type 0 where
 
 -- the product of two lower parts is one again
 pub product_above : {a b : ℤ} → pos 0 <ℤ a → pos 0 <ℤ b → pos 0 <ℤ (a *ℤ b)
-product_above {a = pos m} {b = pos n} h k = lt_z_yes (lt→ltb 0 (m * n) (product_positive (ltb→lt 0 m h.lt) (ltb→lt 0 n k.lt)))
-  where
-    product_positive : {m n : ℕ} → 0 < m → 0 < n → 0 < m * n
-    product_positive {m} {n} p q = rw mul-zero at (mul-lt-mul_of_pos_left {m = 0} {n = n} {k = m} q p)
+product_above {a = pos m} {b = pos n} h k = lt_z_yes (lt→ltb 0 (m * n) (mul-pos (ltb→lt 0 m h.lt) (ltb→lt 0 n k.lt)))
 product_above {a = pos m} {b = negsuc n} h k = absurd k.lt
 product_above {a = negsuc m} {b = b} h k = absurd h.lt
 
@@ -65,8 +62,8 @@ whole z = over z 1 tt
 -- u over d turned to d over u, with both signs turned where u is negative. 0 has no reciprocal, and gets 0
 unfoldable pub exchange : ℤ → ℤ → Fraction
 exchange (pos zero) d = whole (pos 0)
-exchange (pos (suc n)) d = over d (suc n) (lt→ltb 0 (suc n) (omega arith))
-exchange (negsuc n) d = over (neg_ℤ d) (suc n) (lt→ltb 0 (suc n) (omega arith))
+exchange (pos (suc n)) d = over d (suc n) (lt→ltb 0 (suc n) (zero-lt-suc n))
+exchange (negsuc n) d = over (neg_ℤ d) (suc n) (lt→ltb 0 (suc n) (zero-lt-suc n))
 
 unfoldable pub reciprocal : Fraction → Fraction
 reciprocal x = exchange x.upper x.lower

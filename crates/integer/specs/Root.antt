@@ -33,8 +33,8 @@ integer_root (negsuc n) = 0
 unfoldable pub floor_root : Fraction → ℕ
 floor_root x = integer_root (floor_quotient x.upper x.lower)
 
--- ---- the claims, which `proofs/RootLaws.antt` proves
--- the root is one, ..
+-- ---- the claims
+-- the root of any natural number is one, ..
 abbrev pub RootIsRoot : Type 0
 RootIsRoot = (n : ℕ) → IsRoot n (root n)
 

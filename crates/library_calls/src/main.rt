@@ -13,6 +13,7 @@ use formulas::InputBlock;
 use sheet::{End, MAX_BYTES, Refused, Schedule, Step};
 use std::fs::File;
 use std::io::Read;
+use std::process::ExitCode;
 use std::{array, io};
 
 // One row more than a sheet may have.
@@ -451,12 +452,12 @@ impl<'a, P: Print> Calls<'a, P> {
 }
 
 // `main` of sheet_cases is alike, in another program: what both do is the library's `open`, and `fail` of streams.
-fn main(rt: HostRuntime) -> io::Result<()> {
+fn main(rt: HostRuntime) -> io::Result<ExitCode> {
     match File::open(&rt, "calls") {
-        Ok(file) => Calls::new(&rt, file).make_all(),
-        Err(e) => {
-            streams::fail(&rt, "calls", e);
-            Ok(())
+        Ok(file) => {
+            Calls::new(&rt, file).make_all()?;
+            Ok(ExitCode::SUCCESS)
         }
+        Err(e) => Ok(streams::fail(&rt, "calls", e)),
     }
 }

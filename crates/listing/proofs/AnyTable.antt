@@ -19,9 +19,8 @@ use Rattle.evaluation.proofs.EvaluationEnds.{ends_tested, ends_worked}
 use Rattle.evaluation.proofs.RowLines.{rows_few}
 use Rattle.evaluation.proofs.AcceptedEvaluation.{rows_left_few, rows_left_within, ranges_left_ordered, rows_left, range_left}
 use Rattle.evaluation.proofs.WorkedTable.{part_held}
-use Rattle.listing.specs.Listing.{column_names, listing, refusal_text, table_left, ranges_left, schedule_text, text_of, table_numbers, ranges_numbers}
+use Rattle.listing.specs.Listing.{column_names, listing, refusal_text, table_left, ranges_left, schedule_text, text_of, table_numbers, ranges_numbers, printed}
 use Rattle.listing.specs.Held.{RowsHeld}
-use Rattle.listing.specs.Claims.{AnyTable}
 use Rattle.listing.proofs.SameParts.{rows_agree}
 use Rattle.listing.proofs.TextCases.{schedule_listed, schedule_refused}
 
@@ -67,8 +66,8 @@ module _ (t r u s : List ℤ) (long : table_numbers ≤ length t) (long_r : rang
   unfolding text_of
   text_alike sheet = ap (λ l. pick (eqb (read_of sheet).refusal.number 0) l (refusal_text (read_of sheet).refusal)) (schedule_alike (read_of sheet).schedule)
 
--- ANY TABLE: of every sheet and all tables that hold as many rows as a sheet may have, and their ranges.
-pub any_table : AnyTable
+-- of every sheet and all tables that hold as many rows as a sheet may have, and their ranges
+pub any_table : (sheet : List ℕ) (table ranges : List ℤ) → table_numbers ≤ length table → ranges_numbers ≤ length ranges → text_of sheet table ranges ≡ printed sheet
 any_table sheet table ranges long long_ranges =
     text_alike table ranges (replicate table_numbers (pos 0)) (replicate ranges_numbers (pos 0)) long long_ranges
     (omega (arith, length-replicate table_numbers (pos 0))) (omega (arith, length-replicate ranges_numbers (pos 0))) sheet

@@ -12,8 +12,7 @@ use Rattle.evaluation.specs.Asking.{same_of}
 use Rattle.affine.specs.Row.{same}
 use Rattle.evaluation.specs.Table.{row_at}
 use Rattle.listing.specs.Listing.{first_among, first_same}
-use Rattle.listing.specs.Held.{RowHeld}
-use Rattle.listing.proofs.HeldRows.{earlier_same}
+use Rattle.listing.proofs.HeldRows.{RowHeld, earlier_same}
 
 module _ (table : List ℤ) (count row : ℕ) where
   first_is_here : (from : ℕ) → from < row → (same_of table count from row).same ≡ true → first_among table count row from (row - from) ≡ from

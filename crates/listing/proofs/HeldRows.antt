@@ -13,7 +13,13 @@ use Rattle.evaluation.specs.Table.{row_width, row_part, row_at, range_at, Ranges
 use Rattle.evaluation.specs.Asking.{range_told, range_of, same_of}
 use Rattle.evaluation.proofs.AskingLaws.{range_told_of, part_told_of, same_told_of}
 use Rattle.listing.specs.Listing.{own}
-use Rattle.listing.specs.Held.{RowsHeld, RowHeld}
+use Rattle.listing.specs.Held.{RowsHeld}
+
+-- one of the rows that a table holds, by its number
+pub record RowHeld (table : List ℤ) (count row : ℕ) : Type 0 where
+  pub rows : RowsHeld table count
+  pub from_one : 1 ≤ row
+  pub up_to : row ≤ count
 
 pub row_held : {table : List ℤ} {count row : ℕ} → RowsHeld table count → (1 ≤ row) × (row ≤ count) → RowHeld table count row
 row_held h within = record { rows = h; from_one = within.0; up_to = within.1 }
@@ -34,4 +40,4 @@ module _ {table : List ℤ} {count row : ℕ} (h : RowHeld table count row) wher
   -- an earlier row
   module _ {earlier : ℕ} (from_one : 1 ≤ earlier) (before : earlier < row) where
     pub earlier_same : (same_of table count earlier row).same ≡ same (row_at table (earlier - 1)) (row_at table (row - 1))
-    earlier_same = ap (λ a. a.same) (same_told_of table count h.rows.few h.rows.within earlier row from_one (omega arith) h.up_to)
+    earlier_same = ap (λ a. a.same) (same_told_of table count h.rows.few h.rows.within earlier row from_one (omega (arith, h.up_to)) h.from_one h.up_to)

@@ -6,5 +6,7 @@ pub mod BeginningTells
 pub mod SameParts
 pub mod AnyTable
 pub mod Legible
+pub mod ReadLines
+pub mod Truthful
 pub mod Widths
 pub mod Examples

@@ -10,8 +10,8 @@ use Rattle.sheet.specs.Text.{line}
 use Rattle.evaluation.specs.Table.{row_part, row_of_numbers, range_at, RangesOrdered}
 use Rattle.evaluation.specs.Asking.{range_told, range_of, same_of}
 use Rattle.listing.specs.Listing.{own, first_among, row_numbers, row_text}
-use Rattle.listing.specs.Held.{RowsHeld, RowHeld}
-use Rattle.listing.proofs.HeldRows.{row_range, row_own, earlier_same}
+use Rattle.listing.specs.Held.{RowsHeld}
+use Rattle.listing.proofs.HeldRows.{RowHeld, row_range, row_own, earlier_same}
 
 module _ {t u r s : List ℤ} {count : ℕ} (left : RowsHeld t count) (right : RowsHeld u count) (parts : (i : ℕ) → i < count → row_part t i ≡ row_part u i)
     (ordered : RangesOrdered r count) (ordered' : RangesOrdered s count) (ranges : (i : ℕ) → i < count → range_at r i ≡ range_at s i) where

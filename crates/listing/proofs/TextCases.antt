@@ -3,9 +3,10 @@ use mathlib.Core.Path.{◌≡◌, refl, sym, ap, ◌∙◌}
 use mathlib.Core.List.{List}
 use Prim.Native.Nat.{ℕ, ◌≤◌, ◌<◌}
 use native.Mathlib.Nat.{zero-add}
+use native.Mathlib.Omega.{arith}
 use borrow.Author.Tests.{eq-eqb, ne_eqb, lt-ltb, le-ltb}
 use lib.IntN.{ℤ}
-use lib.ListN.{length}
+use lib.ListN.{length, take}
 use Rattle.std.specs.Prelude.{Result, Ok, Err}
 use Rattle.std.specs.Result.{result_unwrap_or}
 use Rattle.sheet.specs.declared.Schedule.{Schedule}
@@ -19,6 +20,8 @@ use Rattle.sheet.specs.Wrote.{Wrote}
 use Rattle.evaluation.specs.Work.{row_count, evaluated}
 use Rattle.listing.specs.Listing.{listing, refusal_text, table_left, ranges_left, schedule_text, text_of, table_of, ranges_of}
 use Rattle.listing.specs.Listed.{text_room, Listed}
+use Rattle.listing.proofs.TextFits.{text_fits}
+use Rattle.listing.proofs.Truthful.{bytes_written}
 
 -- how many bytes were written, or 0 beside a refusal, as the programs take it
 pub length_told : (answer : Result ℕ Refused) → result_unwrap_or answer 0 ≡ (write_answer answer).length
@@ -78,3 +81,15 @@ module _ (sheet : List ℕ) (table ranges : List ℤ) (text : List ℕ) where
       let e = le-ltb (length text) text_room h in
       let answers = rw e at l.answers in
       record { ends = ap (λ (a : WriteAnswer). a.length) answers ∙ sym (zero-add (length (text_of sheet table ranges))); is = rw e at l.leaves_text }
+
+-- What is said of the text alone: it fits, and with tables that hold every row and range it is the one that is printed.
+module _ {sheet : List ℕ} {table ranges table_afterwards ranges_afterwards : List ℤ} {text text_afterwards : List ℕ} {n : ℕ} (room : text_room ≤ length text)
+    (l : Listed sheet table table_afterwards ranges ranges_afterwards text text_afterwards (record { refusal = accepted; length = n })) where
+  w : Wrote text text_afterwards 0 n (text_of sheet table ranges)
+  w = listed_wrote sheet table ranges text room l
+
+  pub fits_told : n ≤ text_room
+  fits_told = omega (arith, w.ends, text_fits sheet table ranges)
+
+  pub text_told : take n text_afterwards ≡ text_of sheet table ranges
+  text_told = bytes_written w (omega (arith, room, text_fits sheet table ranges))

@@ -7,9 +7,3 @@ use Rattle.evaluation.specs.Table.{RowsWithin}
 pub record RowsHeld (table : List ℤ) (count : ℕ) : Type 0 where
   pub few : count ≤ max_rows
   pub within : RowsWithin table count
-
--- One of them, by its number.
-pub record RowHeld (table : List ℤ) (count row : ℕ) : Type 0 where
-  pub rows : RowsHeld table count
-  pub from_one : 1 ≤ row
-  pub up_to : row ≤ count

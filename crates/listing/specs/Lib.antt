@@ -1,4 +1,7 @@
 pub mod Listing
 pub mod Held
 pub mod Listed
-pub mod Claims
+pub mod Truthful
+pub mod Legible
+pub mod Examples
+pub mod Widths

@@ -12,6 +12,7 @@ use lib.IntN.{ℤ, pos, negsuc, nat_abs}
 use mir.Syntax.{w64}
 use mir.Val.{SFits}
 use Rattle.sheet.specs.Number.{field_at, digit_of}
+pub use Rattle.sheet.specs.Text.{TenDigits, none, one}
 use Rattle.sheet.specs.Text.{numeral, end_byte, line}
 use Rattle.sheet.specs.Reading.{on_field, zeros, padded, no_fields, fields_from, fields_at}
 use Rattle.sheet.specs.Answers.{Field, Number, Broken, Fields}
@@ -53,11 +54,6 @@ ten_digits_fit (negsuc n) h = record { sfits = omega arith }
 pub behind : (s : List ℕ) (at : ℕ) (xs rest : List ℕ) → drop at s ≡ xs ++ rest → drop (at + length xs) s ≡ rest
 behind s at xs rest e = sym (drop-drop (length xs) at s) ∙ ap (drop (length xs)) e ∙ drop-append_seam xs rest
 
--- every number has ten digits at the most
-pub data TenDigits : List ℤ → Type 0 where
-  none : TenDigits []
-  one : {x : ℤ} {xs : List ℤ} → nat_abs x < 10000000000 → TenDigits xs → TenDigits (x ∷ xs)
-
 -- where the next line starts
 pub fields_within : (k i : ℕ) (v : List ℤ) (s : List ℕ) (at : ℕ) → at ≤ length s → (fields_from k i v s at).next ≤ length s
 unfolding fields_from
@@ -77,13 +73,14 @@ fields_at_within s at k g = fields_within k 0 zeros s at g
 pub record FieldsAre (s : List ℕ) (at k i : ℕ) (v : List ℤ) (r : Fields) : Type 0 where
   pub xs : List ℤ
   pub count : length xs ≡ k
+  pub short : TenDigits xs
   pub is : drop at s ≡ line xs ++ drop r.next s
   pub upto : r.next ≤ length s
   pub into : r.values ≡ sets v i xs
 
 fields_from_sound : (k i : ℕ) (v : List ℤ) (s : List ℕ) (at : ℕ) → at ≤ length s → (fields_from k i v s at).ok ≡ true → FieldsAre s at k i v (fields_from k i v s at)
 unfolding fields_from line
-fields_from_sound zero i v s at g = λ e. record { xs = []; count = refl; is = refl; upto = g; into = refl }
+fields_from_sound zero i v s at g = λ e. record { xs = []; count = refl; short = none; is = refl; upto = g; into = refl }
 fields_from_sound (suc k) i v s at g = go (field_at s at (end_byte k)) refl (λ x n b. fields_from_sound k (suc i) (set v i x) s n b)
   where
     R : Field → Fields
@@ -98,6 +95,7 @@ fields_from_sound (suc k) i v s at g = go (field_at s at (end_byte k)) refl (λ 
         record {
           xs = x ∷ r.xs;
           count = ap suc r.count;
+          short = one st.small r.short;
           is = st.is ∙ rw r.count (ap (λ (l : List ℕ). numeral x ++ (end_byte k ∷ l)) r.is ∙ sym (append_assoc (numeral x) (end_byte k ∷ line r.xs) (drop (R (Number x n)).next s)));
           upto = r.upto;
           into = r.into;
@@ -109,7 +107,7 @@ unfolding fields_at
 fields_sound s at k g o = fields_from_sound k 0 zeros s at g o
 
 -- the text of numbers is read as these numbers
-fields_from_complete : (xs : List ℤ) (i : ℕ) (v : List ℤ) (s : List ℕ) (at : ℕ) (rest : List ℕ) → TenDigits xs → drop at s ≡ line xs ++ rest
+pub fields_from_complete : (xs : List ℤ) (i : ℕ) (v : List ℤ) (s : List ℕ) (at : ℕ) (rest : List ℕ) → TenDigits xs → drop at s ≡ line xs ++ rest
     → fields_from (length xs) i v s at ≡ record { ok = true; next = at + length (line xs); values = sets v i xs }
 unfolding fields_from line
 fields_from_complete [] i v s at rest none e = rw add-zero
@@ -170,8 +168,8 @@ front_room i xs h =
       length-append (front i xs) (numeral (get_or xs i (pos 0)) ++ (end_byte (length xs - (i + 1)) ∷ [])),
     )
 
--- a field has 12 bytes at the most
-pub line_short : (xs : List ℤ) → length (line xs) ≤ 12 * length xs
+-- a field has 22 bytes at the most
+pub line_short : (xs : List ℤ) → length (line xs) ≤ 22 * length xs
 unfolding line
 line_short [] = omega arith
 line_short (x ∷ xs) = rw (length-append (numeral x) (end_byte (length xs) ∷ line xs)) (omega (arith, numeral_short x, line_short xs))

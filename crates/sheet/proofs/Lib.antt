@@ -1,4 +1,4 @@
--- The laws, from the number field up to the theorems. `RoundTrip` and `FirstFault` have the four theorems on sheets, `Passed` what evaluation cites;
+-- The laws, from the number field up to what `read` and `write` say of sheets (`RoundTrip`, `FirstFault`, `CallClaims`). `Passed` has what evaluation cites;
 -- a library that writes lines of its own needs `numeral_short` (`Decimal`), `line_short` (`FieldLine`) and `wrote_then` (`Written`).
 pub mod Choice
 pub mod Digits
@@ -25,5 +25,6 @@ pub mod Trimmed
 pub mod SheetTold
 pub mod RoundTrip
 pub mod FirstFault
+pub mod CallClaims
 pub mod RefusalSize
 pub mod Examples

@@ -13,6 +13,7 @@ use Rattle.capacity.specs.Limits.{max_inputs, max_steps}
 use Rattle.sheet.specs.Limits.{last_binary, last_code}
 use Rattle.sheet.specs.Causes.{accepted}
 use Rattle.sheet.specs.Lines.{natural, line_of, line_at, lines_left, numbers, ends_at, step_at}
+pub use Rattle.sheet.specs.Passed.{Passed}
 use Rattle.sheet.specs.Tests.{fault, counts_pass, ends_pass, step_passes}
 use Rattle.sheet.specs.Writing.{fault_at, test_lines, test_of}
 use Rattle.sheet.specs.declared.Schedule.{Schedule}
@@ -40,7 +41,7 @@ test_accepts zero n c f = refl
 test_accepts (suc k) n c f = simp (eq-eqb (fault_at c n) 0 (f n (omega arith) (omega arith))) (test_accepts k (suc n) c (λ m a b. f m (omega arith) (omega arith)))
 
 -- the test of a line of each kind
-no_fault : (b : Bool) (n : ℕ) → pick b 0 (suc n) ≡ 0 → b ≡ true
+pub no_fault : (b : Bool) (n : ℕ) → pick b 0 (suc n) ≡ 0 → b ≡ true
 no_fault true n e = refl
 no_fault false n e = absurd (omega arith)
 
@@ -123,13 +124,6 @@ ten_digits_counts c p =
     one (small 1 max_inputs c.inputs p.inputs_in (omega arith))
     (one (small 0 (natural c.inputs) c.squares p.squares_in (omega (arith, p.inputs_in.to)))
     (one (small 1 max_steps c.steps p.steps_in (omega arith)) none))
-
--- a schedule that passes: counts, ends and steps within their limits
-pub record Passed (c : Schedule) : Type 0 where
-  pub counts : CountsPassed c.inputs c.squares c.steps
-  pub ends : (i : ℕ) → i < natural c.inputs → EndsPassed (ends_at c i).low (ends_at c i).high
-  pub steps : (j : ℕ) → j < natural c.steps
-      → StepPassed (natural c.inputs + j) (step_at c j).code (step_at c j).first (step_at c j).second (step_at c j).value
 
 -- both runs of lines pass
 pub both_pass : (c : Schedule) → (test_of c).number ≡ 0 → ((test_lines 2 1 c).number ≡ 0) × ((test_lines (lines_left c) 3 c).number ≡ 0)

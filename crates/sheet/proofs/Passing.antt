@@ -1,7 +1,7 @@
 -- What a passed test 3, 4 or 5 says of the numbers, in natural numbers: for the reader's bounds, for the sheet's length, and for evaluation.
 use mathlib.Core.Path.{◌≡◌, refl, sym, ap, ◌∙◌}
 use mathlib.Core.Bool.{Bool, true, false}
-use Prim.Native.Nat.{ℕ, ◌-◌, ◌≤◌, ◌<◌}
+use Prim.Native.Nat.{ℕ, ◌-◌, ◌≤◌}
 use native.Mathlib.Omega.{arith}
 use borrow.Author.Tests.{leb-true, le-leb, lt-leb}
 use lib.Dec.{leb}
@@ -11,6 +11,7 @@ use Rattle.sheet.specs.Choice.{pick}
 use Rattle.capacity.specs.Limits.{max_inputs, max_steps}
 use Rattle.sheet.specs.Limits.{end_limit, last_binary, last_code}
 use Rattle.sheet.specs.Lines.{natural}
+pub use Rattle.sheet.specs.Passed.{Natural, CountsPassed, EndsPassed, StepPassed}
 use Rattle.sheet.specs.Tests.{between, is_zero, within_limit, names_row, counts_pass, ends_pass, step_passes, row_passes, value_passes}
 
 never : {X : Type 0} → ◌≡◌ {A = Bool} false true → X
@@ -20,12 +21,6 @@ never e = absurd (let y : ◌≡◌ {A = ℕ} 0 1 = cc in omega arith)
 pub both : (a b : Bool) → pick a b false ≡ true → (a ≡ true) × (b ≡ true)
 both true b e = (refl, e)
 both false b e = never e
-
--- `z` is a natural number from `a` to `b`
-pub record Natural (a b : ℕ) (z : ℤ) : Type 0 where
-  pub is : z ≡ pos (natural z)
-  pub from : a ≤ natural z
-  pub to : natural z ≤ b
 
 pub between_natural : (a b : ℕ) (z : ℤ) → between (pos a) z (pos b) ≡ true → Natural a b z
 between_natural a b (pos n) e = let t = both (leb a n) (leb n b) e in record { is = refl; from = leb-true a n t.0; to = leb-true n b t.1 }
@@ -42,12 +37,6 @@ pub within_limit_lem : (z : ℤ) → within_limit z ≡ true → nat_abs z ≤ e
 within_limit_lem (pos n) e = leb-true n end_limit e
 within_limit_lem (negsuc n) e = let t = both (leb n (end_limit - 1)) true e in omega (arith, leb-true n (end_limit - 1) t.0)
 
--- 3: "inputs 1 to .., squares 0 to inputs, steps 1 to .."
-pub record CountsPassed (inputs squares steps : ℤ) : Type 0 where
-  pub inputs_in : Natural 1 max_inputs inputs
-  pub squares_in : Natural 0 (natural inputs) squares
-  pub steps_in : Natural 1 max_steps steps
-
 pub counts_passed : (inputs squares steps : ℤ) → counts_pass inputs squares steps ≡ true → CountsPassed inputs squares steps
 unfolding counts_pass
 counts_passed inputs squares steps e =
@@ -60,29 +49,12 @@ counts_passed inputs squares steps e =
       steps_in = between_natural 1 max_steps steps u.1;
     }
 
--- 4: "Both ends lie from -268,435,456 to 268,435,456, and low is at most high."
-pub record EndsPassed (low high : ℤ) : Type 0 where
-  pub low_in : nat_abs low ≤ end_limit
-  pub high_in : nat_abs high ≤ end_limit
-  pub order : le_z low high ≡ true
-
 pub ends_passed : (low high : ℤ) → ends_pass low high ≡ true → EndsPassed low high
 unfolding ends_pass
 ends_passed low high e =
     let t = both (within_limit low) _ e in
     let u = both (within_limit high) _ t.1 in
     record { low_in = within_limit_lem low t.0; high_in = within_limit_lem high u.0; order = u.1 }
-
--- 5: what each code's fields hold where so many rows are earlier
-pub record StepPassed (earlier : ℕ) (code first second value : ℤ) : Type 0 where
-  pub code_in : Natural 1 last_code code
-  pub first_row : 2 ≤ natural code → Natural 1 earlier first
-  pub first_zero : natural code ≤ 1 → first ≡ pos 0
-  pub second_row : 2 ≤ natural code → natural code ≤ last_binary → Natural 1 earlier second
-  pub second_zero : natural code ≤ 1 → second ≡ pos 0
-  pub second_zero_last : last_binary < natural code → second ≡ pos 0
-  pub value_in : natural code ≤ 1 → nat_abs value ≤ end_limit
-  pub value_zero : 2 ≤ natural code → value ≡ pos 0
 
 -- a field's test, by whether the field is used
 row_used : (r : ℕ) (z : ℤ) (u : Bool) → row_passes u r z ≡ true → u ≡ true → Natural 1 r z

@@ -1,23 +1,19 @@
--- The theorems on sheets, over the definitions that the contracts of `read`, `test` and `write` cite:
---   1. reading accepts exactly the texts of schedules that pass 3, 4 and 5 (`read_sound`, `read_complete`);
---   2. a sheet read and written again has the same bytes (`read_then_write`);
---   3. a schedule written and read again is the same schedule (`write_then_read`).
--- `FirstFault.antt` has the fourth: the place of a refusal is the first faulty line.
-use mathlib.Core.Path.{◌≡◌, refl, sym, ap, ◌∙◌}
+-- Reading accepts exactly the sheets of passing schedules, and reading and writing undo one another, in the words of `specs/RoundTrip.antt`.
+use mathlib.Core.Path.{◌≡◌, sym, ap, ◌∙◌}
 use mathlib.Core.List.{List, [], ◌++◌, append-nil}
 use Prim.Native.Nat.{ℕ, ◌+◌, ◌≤◌}
 use native.Mathlib.Omega.{arith}
 use borrow.Author.Tests.{eq-eqb, eqb-true, eqb-false, ltb-false, le-ltb}
 use lib.Dec.{eqb, ltb}
 use lib.ListN.{length, drop, take, length-append, drop_of_length-le}
-use lib.Seq.{sets}
 use Rattle.sheet.specs.Limits.{max_bytes}
 use Rattle.sheet.specs.Causes.{accepted}
-use Rattle.sheet.specs.Lines.{natural, zero_end, zero_step, ends_at, step_at, line_of, line_at, lines_left, numbers}
+use Rattle.sheet.specs.Lines.{natural, line_of, line_at, lines_left, numbers}
 use Rattle.sheet.specs.Tests.{fault}
 use Rattle.sheet.specs.Reading.{part_read, read_lines, read_sheet, read_of, answer}
-use Rattle.sheet.specs.Writing.{fault_at, test_lines, test_of, lines_text, sheet_text, write_of, left_of}
-use Rattle.sheet.specs.Same.{Same, trimmed}
+use Rattle.sheet.specs.Writing.{fault_at, test_lines, test_of, lines_text, sheet_text, write_of, Written}
+use Rattle.sheet.specs.Same.{trimmed}
+use Rattle.sheet.specs.RoundTrip.{SheetOf, WritesBack, ReadsAgain}
 use Rattle.sheet.specs.declared.Schedule.{Schedule}
 use Rattle.sheet.specs.Answers.{Refusal, ReadAnswer, WriteAnswer, Part}
 use Rattle.sheet.specs.declared.Line.TheVariants.{CountLine}
@@ -33,11 +29,6 @@ use Rattle.sheet.proofs.SheetWrite.{write_done, take_sets}
 use Rattle.sheet.proofs.Trimmed.{copied_trimmed, counted_same, same_trimmed, ends_beyond, steps_beyond_lem}
 
 -- ---- 1. reading accepts exactly the texts of passing schedules
-
--- an accepted sheet, read into `c`: its bytes are the text of `c`, and `c` passes
-pub record SheetOf (s : List ℕ) (c : Schedule) : Type 0 where
-  pub text : s ≡ sheet_text c
-  pub passes : test_of c ≡ accepted
 
 first_passes : (d : Schedule) → fault CountLine (numbers d CountLine) ≡ 0 → test_lines 2 1 d ≡ accepted
 unfolding test_lines fault_at line_of fault
@@ -73,17 +64,13 @@ sheet_sound s =
     (λ b z. absurd (eqb-false q.refusal.number 0 b z)))
     (λ a z. absurd (eqb-false p.refusal.number 0 a z))
 
--- What is accepted is the text of a schedule that passes: the one that was read.
+-- what is accepted is the sheet of the schedule that was read
 pub read_sound : (s : List ℕ) → (read_of s).refusal ≡ accepted → SheetOf s (read_of s).schedule
 unfolding read_of
 read_sound s =
     pick_elim (λ (r : ReadAnswer). r.refusal ≡ accepted → SheetOf s r.schedule) (ltb max_bytes (length s)) _ _
     (λ l e. absurd (let z : ◌≡◌ {A = ℕ} 1 0 = ap (λ (r : Refusal). r.number) e in omega arith))
     (λ l e. sheet_sound s (ap (λ (r : Refusal). r.number) e))
-
--- what reading answers where it accepts
-abbrev pub read_as_schedule : Schedule → ReadAnswer
-read_as_schedule c = record { refusal = accepted; schedule = c }
 
 sheet_complete : (c : Schedule) → (test_of c).number ≡ 0 → read_sheet (sheet_text c) ≡ part_read (length (sheet_text c)) (trimmed c)
 unfolding fault_at line_of
@@ -106,36 +93,22 @@ sheet_complete c z =
     let long : 0 + length A + length B ≡ length s = omega (arith, ap length split, length-append A B) in
     sheet_ends s (ap (λ (q : Part). q.refusal.number) first) (ap (λ (q : Part). q.refusal.number) second) (ap (λ (q : Part). q.next) second ∙ long) ∙ rw (second, long)
 
--- The text of a schedule that passes is accepted, and read as that schedule with zeros beyond its counts.
-pub read_complete : (c : Schedule) → test_of c ≡ accepted → read_of (sheet_text c) ≡ read_as_schedule (trimmed c)
+-- the sheet of a schedule that passes is accepted, and read as that schedule with zeros beyond its counts
+pub read_complete : (c : Schedule) → test_of c ≡ accepted → read_of (sheet_text c) ≡ record { refusal = accepted; schedule = trimmed c }
 unfolding read_of
 read_complete c e =
     let z : (test_of c).number ≡ 0 = ap (λ (r : Refusal). r.number) e in
     simp (le-ltb max_bytes (length (sheet_text c)) (sheet_short c z)) (ap answer (sheet_complete c z))
 
--- Together: reading accepts `s` exactly if `s` is the text of a schedule that passes.
-pub read_accepts : (s : List ℕ) (c : Schedule) → SheetOf s c → (read_of s).refusal ≡ accepted
-read_accepts s c h = rw h.text (ap (λ (r : ReadAnswer). r.refusal) (read_complete c h.passes))
+-- ---- 2. what was read is written back
 
--- ---- 2. "A sheet read and written again has the same bytes"
+pub writes_back : (s : List ℕ) (c : Schedule) → SheetOf s c → WritesBack s c
+writes_back s c h lent room =
+    let t = h.text in
+    let w = write_done c lent (ap (λ (r : Refusal). r.number) h.passes) (omega (arith, ap length t)) in
+    record { answers = rw (← t) at w.0; leaves = rw (← t) at w.1 }
 
--- where the lent bytes have room for it; the bytes beyond the sheet stay as they were
-pub read_then_write : (s out : List ℕ) → (read_of s).refusal ≡ accepted → length s ≤ length out
-    → (write_of (read_of s).schedule (length out) ≡ record { refusal = accepted; length = length s }) × (left_of (read_of s).schedule out ≡ sets out 0 s)
-read_then_write s out e h =
-    let c : Schedule = (read_of s).schedule in
-    let r = read_sound s e in
-    let t = r.text in
-    let w = write_done c out (ap (λ (x : Refusal). x.number) r.passes) (omega (arith, ap length t)) in
-    (sym w.0 ∙ rw (← t), sym w.1 ∙ rw (← t))
-
--- ---- 3. "and a schedule written and read again is the same schedule"
-
--- what was read again: the same counts, ends and steps within the counts, and zeros beyond them
-pub record ReadAgain (c d : Schedule) : Type 0 where
-  pub same : Same c d
-  pub ends_zero : (i : ℕ) → natural c.inputs ≤ i → ends_at d i ≡ zero_end
-  pub steps_zero : (j : ℕ) → natural c.steps ≤ j → step_at d j ≡ zero_step
+-- ---- 3. what was written is read again
 
 -- an accepted writing: the schedule passes, and its sheet has room
 written : (c : Schedule) (room : ℕ) → (write_of c room).refusal ≡ accepted → ((test_of c).number ≡ 0) × (length (sheet_text c) ≤ room)
@@ -150,20 +123,23 @@ written c room =
     P : WriteAnswer → Type 0
     P w = w.refusal ≡ accepted → ((test_of c).number ≡ 0) × (length (sheet_text c) ≤ room)
 
-pub write_then_read : (c : Schedule) (out : List ℕ) → (write_of c (length out)).refusal ≡ accepted
-    → ((read_of (take (write_of c (length out)).length (left_of c out))).refusal ≡ accepted)
-    × ReadAgain c (read_of (take (write_of c (length out)).length (left_of c out))).schedule
-write_then_read c out e =
-    let i = written c (length out) e in
-    let p = (passed c i.0).counts in
-    let w = write_done c out i.0 i.1 in
-    let bytes : take (write_of c (length out)).length (left_of c out) ≡ sheet_text c = rw (← w.0, ← w.1) (take_sets (sheet_text c) out i.1) in
-    let r = read_complete c (test_accepted c i.0) in
-    rw (bytes, r) (
-      refl,
-      record {
-        same = same_trimmed c p.inputs_in.to p.steps_in.to;
-        ends_zero = ends_beyond c;
-        steps_zero = steps_beyond_lem c;
-      },
-    )
+-- the sheet of a schedule that passes reads as the same schedule
+sheet_again : (c : Schedule) → (test_of c).number ≡ 0 → ReadsAgain c (sheet_text c)
+sheet_again c z =
+    let p = (passed c z).counts in
+    let r = read_complete c (test_accepted c z) in
+    record {
+      is_read = rw r;
+      same = rw r (same_trimmed c p.inputs_in.to p.steps_in.to);
+      ends_zero = rw r (ends_beyond c);
+      steps_zero = rw r (steps_beyond_lem c);
+    }
+
+-- and it stands in front of the bytes that an accepted writing left
+pub write_then_read : (c : Schedule) (before after : List ℕ) (w : WriteAnswer) → Written c before after w → w.refusal ≡ accepted → ReadsAgain c (take w.length after)
+write_then_read c before after w h e =
+    let i = written c (length before) (ap (λ (a : WriteAnswer). a.refusal) (sym h.answers) ∙ e) in
+    let d = write_done c before i.0 i.1 in
+    let long : length (sheet_text c) ≡ w.length = ap (λ (a : WriteAnswer). a.length) (d.0 ∙ sym h.answers) in
+    let bytes : take w.length after ≡ sheet_text c = rw (← long, h.leaves, ← d.1) (take_sets (sheet_text c) before i.1) in
+    rw bytes (sheet_again c i.0)

@@ -12,7 +12,7 @@ use Rattle.sheet.specs.Choice.{pick}
 use lib.IntN.{ℤ, pos, negsuc, neg_ℤ, nat_abs}
 use Rattle.capacity.specs.Limits.{max_inputs, max_steps}
 use Rattle.sheet.specs.Limits.{max_bytes, end_limit, last_binary, last_code}
-use Rattle.sheet.specs.Text.{numeral, decimal, line, texts}
+use Rattle.sheet.specs.Text.{most_digits, numeral, decimal, line, texts}
 use Rattle.sheet.specs.Lines.{natural, line_of, line_at, lines_left, line_text, numbers, ends_at, step_at}
 use Rattle.sheet.specs.Tests.{counts_pass, ends_pass, step_passes, fault}
 use Rattle.sheet.specs.Writing.{fault_at, text_at, lines_text, sheet_text, test_lines, test_of}
@@ -27,7 +27,7 @@ use Rattle.sheet.proofs.Passed.{passed, both_pass, test_zero, ends_line, step_li
 -- a natural number below 10 ^ d has d digits at the most
 natural_width : (d a b : ℕ) (z : ℤ) → Natural a b z → b < 10 ^ suc d → length (numeral z) ≤ suc d
 unfolding numeral
-natural_width d a b (pos n) h g = decimal_width 10 d n (omega (arith, h.to))
+natural_width d a b (pos n) h g = decimal_width most_digits d n (omega (arith, h.to))
 natural_width d a b (negsuc n) h g = absurd (let e = h.is in let y : ◌≡◌ {A = ℕ} 0 1 = cc in omega arith)
 
 zero_width : (z : ℤ) → z ≡ pos 0 → length (numeral z) ≤ 1

@@ -29,11 +29,13 @@ module _ (f : ℕ → List ℕ) where
   texts_room count n i h =
       omega (arith, ap length (texts_more i n), length-append (texts i n f) (f (n + i)), texts_longer (i + 1) count n (omega arith))
 
-  -- none longer than `w`
-  pub texts_width : (w : ℕ) → ((i : ℕ) → length (f i) ≤ w) → (k n : ℕ) → length (texts k n f) ≤ w * k
+  -- none of them longer than `w`
+  pub texts_width : (w k n : ℕ) → ((i : ℕ) → n ≤ i → i < n + k → length (f i) ≤ w) → length (texts k n f) ≤ w * k
   unfolding texts
-  texts_width w h zero n = omega arith
-  texts_width w h (suc k) n = rw (length-append (f n) (texts k (suc n) f)) (omega (arith, h n, texts_width w h k (suc n)))
+  texts_width w zero n h = omega arith
+  texts_width w (suc k) n h =
+      rw (length-append (f n) (texts k (suc n) f))
+      (omega (arith, h n (omega arith) (omega arith), texts_width w k (suc n) (λ i a b. h i (omega arith) (omega arith))))
 
 -- texts that agree one by one agree all together
 pub texts_cong : {f g : ℕ → List ℕ} (k n : ℕ) → ((i : ℕ) → n ≤ i → i < n + k → f i ≡ g i) → texts k n f ≡ texts k n g

@@ -1,11 +1,11 @@
--- Writing one text behind another is writing the two joined.
-use mathlib.Core.Path.{◌≡◌, refl, sym, ◌∙◌}
+-- Writing one text behind another is writing the two joined; what was written can be taken from where it stands.
+use mathlib.Core.Path.{◌≡◌, refl, sym, ◌∙◌, subst}
 use mathlib.Core.List.{List, [], ◌∷◌, ◌++◌, append_assoc}
 use Prim.Native.Nat.{ℕ, suc, ◌+◌, ◌-◌, ◌≤◌}
 use native.Mathlib.Nat.{add-zero, add-suc, suc-add}
 use native.Mathlib.Omega.{arith}
 use lib.ListN.{length, set, take, drop, length-append}
-use lib.Seq.{sets, sets-eq, drop-drop}
+use lib.Seq.{sets, sets-eq, drop-drop, length-take-le, take-append_seam, drop-append_seam}
 use borrow.Rule.Slice.PartMut.{put_mid}
 use Rattle.sheet.specs.Wrote.{Wrote}
 
@@ -30,3 +30,13 @@ pub wrote_mid : (before t mid : List ℕ) (at : ℕ) → mid ≡ t → at + leng
 wrote_mid before t mid at e h =
     let k : at + length t - at ≡ length t = omega arith in
     record { ends = refl; is = rw (e, k, drop-drop (length t) at before) (sym (sets-eq t before at h ∙ append_assoc (take at before) t (drop (at + length t) before))) }
+
+-- what was written stands there
+pub wrote_there : {before after xs : List ℕ} {at end : ℕ} → Wrote before after at end xs → at + length xs ≤ length before → drop at (take end after) ≡ xs
+wrote_there {before} {after} {xs} {at} {end} w h =
+    let front : List ℕ = take at before ++ xs in
+    let rest : List ℕ = drop (at + length xs) before in
+    let l : length (take at before) ≡ at = length-take-le at before (omega arith) in
+    let m : length front ≡ at + length xs = rw (length-append (take at before) xs, l) in
+    let t : take (at + length xs) (front ++ rest) ≡ front = subst (λ k. take k (front ++ rest) ≡ front) m (take-append_seam front rest) in
+    rw (w.ends, w.is, sets-eq xs before at h, t) (subst (λ k. drop k front ≡ xs) l (drop-append_seam (take at before) xs))

@@ -8,7 +8,10 @@ pub mod Lines
 pub mod Tests
 pub mod Reading
 pub mod Writing
+pub mod Passed
 pub mod LongestSheet
 pub mod Results
 pub mod Wrote
 pub mod Same
+pub mod RoundTrip
+pub mod FirstFault

@@ -1,16 +1,25 @@
 -- The text of numbers and lines ("The sheet": manual, sections 2.2 and 2.3), as the writer makes it and the reader wants it.
-use Rattle.std.specs.Prelude.{List, [], ◌∷◌, ◌++◌, ℕ, zero, suc, ◌+◌, ◌/◌, ◌%◌, ltb, length, ℤ, pos, negsuc}
+use Rattle.std.specs.Prelude.{List, [], ◌∷◌, ◌++◌, ℕ, zero, suc, ◌+◌, ◌/◌, ◌%◌, ◌<◌, ltb, length, ℤ, pos, negsuc, nat_abs}
 use Rattle.sheet.specs.Choice.{pick}
 
--- `n` in decimal digits with no needless 0 in front, `k` digits at the most.
+-- `n` in decimal digits, `k` of them at the most, and no needless 0 in front.
 unfoldable pub decimal : ℕ → ℕ → List ℕ
 decimal zero n = []
 decimal (suc k) n = pick (ltb n 10) ((n + 48) ∷ []) (decimal k (n / 10) ++ ((n % 10 + 48) ∷ []))
 
--- "A number is an optional minus and 1 to 10 decimal digits; no leading zero except 0 itself, and no minus before 0."
+-- The most digits of a number that a call can take: 2 ^ 64 - 1 has so many. `put_count` and `put_number` say that each number is written whole.
+abbrev pub most_digits : ℕ
+most_digits = 20
+
+-- A number is written in decimal digits with no needless 0 in front, behind a minus where it is below 0.
 unfoldable pub numeral : ℤ → List ℕ
-numeral (pos n) = decimal 10 n
-numeral (negsuc n) = 45 ∷ decimal 10 (suc n)
+numeral (pos n) = decimal most_digits n
+numeral (negsuc n) = 45 ∷ decimal most_digits (suc n)
+
+-- Every number has ten digits at the most, as on a sheet.
+pub data TenDigits : List ℤ → Type 0 where
+  none : TenDigits []
+  one : {x : ℤ} {xs : List ℤ} → nat_abs x < 10000000000 → TenDigits xs → TenDigits (x ∷ xs)
 
 -- The byte that ends a field behind which `k` more stand on the line: a space, or byte 10 for the last.
 abbrev pub end_byte : ℕ → ℕ

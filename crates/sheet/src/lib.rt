@@ -1,14 +1,21 @@
 // Schedule sheets (manual, section 2): reading, writing, and the tests 3, 4 and 5 of a schedule that is handed over.
 #![tactic(auto)]
 
-ghost use Rattle.std.specs.Prelude.{◌≡◌, ◌+◌, ◌<◌, ◌≤◌, get_or};
+ghost use Rattle.std.specs.Prelude.{◌≡◌, ◌↔◌, ◌+◌, ◌<◌, ◌≤◌, ℕ, length, get_or, take, IfOk, IfErr, OnErr};
 ghost use Rattle.capacity.specs.Limits.{max_inputs, max_steps};
+ghost use Rattle.sheet.specs.Answers.{Refusal};
+ghost use Rattle.sheet.specs.Causes.{sheet_too_long};
+ghost use Rattle.sheet.specs.Limits.{max_bytes};
 ghost use Rattle.sheet.specs.Tests.{ends_pass, step_passes};
 ghost use Rattle.sheet.specs.Reading.{read_of};
 ghost use Rattle.sheet.specs.Writing.{test_of, Written};
 ghost use Rattle.sheet.specs.Lines.{zero_schedule, zero_end, zero_step};
-ghost use Rattle.sheet.specs.Results.{read_answer, tested, write_answer};
+ghost use Rattle.sheet.specs.Results.{number, refusal_of, read_answer, tested, write_answer};
+ghost use Rattle.sheet.specs.Same.{trimmed};
+ghost use Rattle.sheet.specs.RoundTrip.{SheetOf, WritesBack, ReadsAgain};
+ghost use Rattle.sheet.specs.FirstFault.{FirstFault};
 
+pub mod claims; // claims.rt: what is claimed of all schedules, and of numbers
 mod causes; // causes.rt: why a call is refused
 mod number; // number.rt: a number field, read and written
 mod fields; // fields.rt: a line of fields, read and written
@@ -21,9 +28,9 @@ mod writer; // writer.rt: a schedule written, line by line
 pub use causes::{Cause, Refused, ensure};
 pub use lines::natural;
 
-// Bytes, a number, a count and a line of numbers written at a position, for libraries that write lines of their own; a number field, read.
+// Bytes, a count and a line of numbers written at a position, for libraries that write lines of their own; a number field, read.
 pub use fields::{put_bytes, put_fields};
-pub use number::{Found, byte, digit, field_at, put_count, put_number};
+pub use number::{Found, byte, digit, field_at, put_count};
 
 // The limits of a sheet (manual, section 2.4): of its counts, from `capacity`, and the others; the `Limits.antt` of both crates have the same names for definitions and laws.
 pub use capacity::{MAX_INPUTS, MAX_STEPS};
@@ -32,9 +39,9 @@ pub const MAX_BYTES: usize = 1024;
 
 pub const END_LIMIT: i64 = 268435456;
 
-pub const LAST_BINARY: i64 = 4;
+const LAST_BINARY: i64 = 4;
 
-pub const LAST_CODE: i64 = 6;
+const LAST_CODE: i64 = 6;
 
 // The ends of an input.
 #[derive(Clone, Copy, Debug, PartialEq, Eq)]
@@ -66,8 +73,8 @@ impl Step {
 }
 
 // A schedule: its counts, and with room for all that the limits allow the ends of its inputs and its steps. Counts beside arrays, and no Vec: in fixed
-// memory, and any counts may be handed over.
-#[derive(Clone, Copy, Debug, PartialEq, Eq)]
+// memory, and any counts may be handed over. No `==`: field by field it would tell schedules apart by what lies beyond their counts.
+#[derive(Clone, Copy, Debug)]
 pub struct Schedule {
     pub inputs: i64,
     pub squares: i64,
@@ -77,8 +84,8 @@ pub struct Schedule {
 }
 
 // What a text line is: a line of names, or one of counts, of an input's ends, of a step (its index, and how many rows are earlier).
-#[derive(Clone, Copy, Debug, PartialEq, Eq)]
-pub enum Line {
+#[derive(Clone, Copy)]
+enum Line {
     CountNames,
     CountLine,
     EndNames,
@@ -87,10 +94,20 @@ pub enum Line {
     StepLine(usize, usize),
 }
 
-// Reads a sheet: any bytes, of any length.
-#[tactic(auto, unfolding(crate::specs::Reading::read_of))]
+// Reads a sheet: any bytes, of any length. A refusal by 1 tells the whole sheet, one by 2 to 5 its first faulty text line.
+#[tactic(auto, unfolding(crate::specs::Reading::read_of), using(crate::proofs::CallClaims::has_its_bytes, crate::proofs::CallClaims::is_written_back, crate::proofs::CallClaims::reads_each, crate::proofs::CallClaims::too_long, crate::proofs::CallClaims::tells_first, crate::proofs::CallClaims::only_first))]
 pub fn read(bytes: &[u8]) -> Result<Schedule, Refused>
-    ensures { read_answer result ≡ read_of bytes.now }
+    ensures answer { read_answer result ≡ read_of bytes.now }
+
+    // what is read has these bytes, and is written back to them; the sheet of each schedule that passes is read as that schedule, zeros beyond its counts
+    ensures has_its_bytes { IfOk result (λ c. SheetOf bytes.now c) }
+    ensures writes_back { IfOk result (λ c. WritesBack bytes.now c) }
+    ensures reads_each { (c : Schedule) → SheetOf bytes.now c → result ≡ Ok (trimmed c) }
+
+    // a refusal tells its cause and place, and no sheet has another
+    ensures too_long { ((read_answer result).refusal ≡ sheet_too_long) ↔ (max_bytes < length bytes.now) }
+    ensures tells_first_fault { IfErr result (λ r. 2 ≤ number r.cause → FirstFault bytes.now (refusal_of r)) }
+    ensures tells_no_other_fault { (r : Refusal) → length bytes.now ≤ max_bytes → FirstFault bytes.now r → (read_answer result).refusal ≡ r }
 {
     ensure(bytes.len() <= MAX_BYTES, Cause::SheetTooLong, 0)?;
     reader::read_sheet(bytes)
@@ -127,9 +144,11 @@ pub fn test(schedule: Schedule) -> Result<(), Refused>
     )
 }
 
-// Writes the sheet of a schedule into the lent bytes, where it passes and there is room, and answers the sheet's length.
+// Writes the sheet of a schedule into the lent bytes, where it passes and there is room, and answers the sheet's length. A refusal writes nothing.
 pub fn write(schedule: Schedule, out: &mut [u8]) -> Result<usize, Refused>
-    ensures { Written schedule out.old out.new (write_answer result) }
+    ensures written { Written schedule out.old out.new (write_answer result) }
+    ensures reads_again { IfOk result (λ n. ReadsAgain schedule (take n out.new)) }
+    ensures leaves_all { OnErr result (out.new ≡ out.old) }
 {
     test(schedule)?;
     let mut sheet = [0u8; MAX_BYTES];

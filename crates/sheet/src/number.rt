@@ -1,10 +1,14 @@
 // A number field: an optional minus and 1 to 10 decimal digits, with the byte that ends it. Read and written.
 // The bytes stand with a position, and not as what is left of them: specs/Number.antt and specs/Wrote.antt say by positions what stands there.
-ghost use Rattle.std.specs.Prelude.{◌≡◌, ◌++◌, ◌∷◌, [], ◌+◌, ◌≤◌, ◌<◌, length, drop, get_or, pos};
+ghost use Rattle.std.specs.Prelude.{◌≡◌, ◌++◌, ◌∷◌, [], ◌+◌, ◌≤◌, ◌<◌, length, take, drop, get_or, pos};
+ghost use Rattle.std.specs.Str.Parse.{digits_value, signed_digits_value};
 ghost use Rattle.sheet.specs.Number.{digit_of, run, signed_of, after_sign, field_at};
 ghost use Rattle.sheet.specs.Text.{decimal, numeral};
 ghost use Rattle.sheet.specs.Results.{as_digit, field};
 ghost use Rattle.sheet.specs.Wrote.{Wrote};
+
+// The most digits of a number that is written: 2^64 - 1 has so many.
+const MOST_DIGITS: usize = 20;
 
 // What was read at a position: its value, and the position past it, or past the byte that ends it.
 #[derive(Clone, Copy, Debug, PartialEq, Eq)]
@@ -91,7 +95,7 @@ pub fn field_at(s: &[u8], at: usize, t: u8) -> Option<Found<i64>>
     }
 }
 
-// Writes v in decimal from a position on, k digits at the most, and returns the position behind them. Digit by digit: `write!` has no such limit.
+// Writes v in decimal from a position on, k digits at the most, and returns the position behind them. Digit by digit: `write!` knows no position.
 fn put_digits(out: &mut [u8], at: usize, v: u64, k: usize) -> usize
     requires { at + length (decimal k v) ≤ length out.old }
     ensures { Wrote out.old out.new at result (decimal k v) }
@@ -117,27 +121,29 @@ fn put_byte(out: &mut [u8], at: usize, b: u8) -> usize
     at + 1
 }
 
-// Writes a number of up to ten digits; of a longer one, which no sheet has, the last ten.
-pub fn put_number(out: &mut [u8], at: usize, v: i64) -> usize
+// Writes a number with all its digits: the bytes tell it.
+fn put_number(out: &mut [u8], at: usize, v: i64) -> usize
     requires { at + length (numeral v) ≤ length out.old }
-    ensures { Wrote out.old out.new at result (numeral v) }
+    ensures written { Wrote out.old out.new at result (numeral v) }
+    ensures whole { signed_digits_value 10 (drop at (take result out.new)) ≡ v }
 {
     let size = v.unsigned_abs();
     if v < 0 {
         let p = put_byte(out, at, b'-');
-        put_digits(out, p, size, 10)
+        put_digits(out, p, size, MOST_DIGITS)
     } else {
-        put_digits(out, at, size, 10)
+        put_digits(out, at, size, MOST_DIGITS)
     }
 }
 
-// Writes a count of up to ten digits.
+// Writes a count with all its digits: the bytes tell it.
 #[tactic(auto, unfolding(crate::specs::Text::numeral))]
 pub fn put_count(out: &mut [u8], at: usize, n: u64) -> usize
     requires { at + length (numeral (pos n)) ≤ length out.old }
-    ensures { Wrote out.old out.new at result (numeral (pos n)) }
+    ensures written { Wrote out.old out.new at result (numeral (pos n)) }
+    ensures whole { digits_value 10 (drop at (take result out.new)) ≡ n }
 {
-    put_digits(out, at, n, 10)
+    put_digits(out, at, n, MOST_DIGITS)
 }
 
 // Writes a number and the byte t behind it.

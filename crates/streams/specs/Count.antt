@@ -1,14 +1,18 @@
 -- What an answer of `read_input` says of the buffer and of the reader, and what a failure of `write_all` leaves of the bytes.
-use Rattle.std.specs.Prelude.{◌≡◌, ◌<◌, ◌≤◌, List, Option, Result, ℕ, length, take, IfOk, MatchResult}
+use Rattle.std.specs.Prelude.{◌≡◌, ◌-◌, ◌<◌, ◌≤◌, List, Option, Result, ℕ, length, take, drop, replicate, IfOk, MatchResult}
 use Rattle.std.specs.Io.KnownBytes.{Appends, Consumes, IsAtEnd}
 
 -- as many bytes as were read are in the buffer, at its start; a failure says nothing of it
 abbrev pub CountsIn : {E : Type 0} → Result ℕ E → List ℕ → Type 0
 CountsIn answer buf = IfOk answer (λ n. (n ≤ length buf) × (n ≡ length (take n buf)))
 
--- the reader gave some bytes, and they stand at the start of the buffer
+-- from a position on the buffer holds zeros
+abbrev pub ZerosFrom : List ℕ → ℕ → Type 0
+ZerosFrom buf n = drop n buf ≡ replicate (length buf - n) 0
+
+-- the reader gave some bytes, and they stand at the start of the buffer, with zeros behind them
 abbrev pub ConsumesSome : Option (List ℕ) → Option (List ℕ) → List ℕ → Type 0
-ConsumesSome old new buf = (n : ℕ) × (n ≤ length buf) × Consumes old new (take n buf)
+ConsumesSome old new buf = (n : ℕ) × (n ≤ length buf) × Consumes old new (take n buf) × ZerosFrom buf n
 
 -- the reader gave the bytes that were read, each once and in order; where they do not fill the buffer, it has no more
 abbrev pub ConsumesFront : {E : Type 0} → Option (List ℕ) → Option (List ℕ) → Result ℕ E → List ℕ → Type 0

@@ -1,1 +1,3 @@
 pub mod Count
+pub mod Failure
+pub mod Words

@@ -1,5 +1,5 @@
 //! The program `formula` written plainly in Rust, to be measured beside it: a formula, the squares and the ends are its arguments, and the sheet or the
-//! refusal is printed with one write. A wrong call prints how to call it, on standard error.
+//! refusal is printed with one write. A wrong call prints how to call it, on standard error, and ends with status 2.
 #[path = "../formula.rs"]
 mod formula;
 #[allow(dead_code)] // no sheet is read here
@@ -56,7 +56,7 @@ fn answer(call: &Call) -> Result<String, Refusal> {
 fn main() {
     let Some(call) = call() else {
         eprintln!("{HOW_TO_CALL}");
-        return;
+        std::process::exit(2);
     };
     let text = answer(&call).unwrap_or_else(|refusal| format!("refused place\n{} {}\n", refusal.number, refusal.place));
     std::io::stdout().write_all(text.as_bytes()).expect("standard output can be written");

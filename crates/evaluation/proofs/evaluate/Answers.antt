@@ -18,6 +18,10 @@ use Rattle.evaluation.proofs.EvaluationEnds.{nothing_put, nothing_told, ends_tes
 use Rattle.evaluation.proofs.RowLines.{rows_few}
 use Rattle.evaluation.proofs.WorkLaws.{Done, all_done, stopped_at}
 use Rattle.evaluation.proofs.Narrowed.{own_put, narrowed_left}
+use Rattle.evaluation.proofs.Demand3.{guaranteed}
+use Rattle.evaluation.proofs.AcceptedEvaluation.{held}
+use Rattle.evaluation.proofs.NeverEmpty.{never_empty}
+use Rattle.evaluation.proofs.Unused.{unused}
 use Rattle.evaluation.proofs.evaluate.Goals as goal
 use Rattle.evaluation.proofs.evaluate.Goals.{in-Ok, in-Err}
 
@@ -47,7 +51,15 @@ returns-in_err-test c =
     let p = err_from_is_err_and c.from_residual.result c.from_residual.ensures.1 in
     let e = c.in_err-test.ensures in
     let u = untouched a.schedule a.table.now a.ranges.now (ends_tested a.schedule a.table.now a.ranges.now (err_some c.in_err-test.field-0.0 e)) in
-    record { answer = rw (p.1, p.2) (e ∙ u.0); left = u.1.0; told = u.1.1 }
+    record {
+      answer = rw (p.1, p.2) (e ∙ u.0);
+      left = u.1.0;
+      told = u.1.1;
+      guaranteed = rw p.1 tt;
+      held = rw p.1 tt;
+      never_empty = never_empty a.schedule a.table.now a.ranges.now u.1.1;
+      unused = unused a.schedule a.table.now a.ranges.now;
+    }
 
 -- numbers for all rows are few
 few_numbers : (s : Schedule) {n : ℕ} → (test_of s).number ≡ 0 → n ≡ row_count s → row_width * n < 2 ^ 64
@@ -67,7 +79,15 @@ returns-in_err-test_room c =
     let p = err_from_is_err_and q.result q.ensures.1 in
     let e = rw c.row_count-rows.ensures at c.in_err-test_room.ensures.answer in
     let u = untouched s a.table.now a.ranges.now (ends_full s a.table.now a.ranges.now (ok_zero c.in_ok-test.ensures) c.in_err-test_room.field-0.0 e) in
-    record { answer = rw (p.1, p.2) u.0; left = u.1.0; told = u.1.1 }
+    record {
+      answer = rw (p.1, p.2) u.0;
+      left = u.1.0;
+      told = u.1.1;
+      guaranteed = rw p.1 tt;
+      held = rw p.1 tt;
+      never_empty = never_empty s a.table.now a.ranges.now u.1.1;
+      unused = unused s a.table.now a.ranges.now;
+    }
 
 pub returns-in_err-test_room-2 : goal.returns-in_err-test_room-2
 returns-in_err-test_room-2 c =
@@ -78,7 +98,15 @@ returns-in_err-test_room-2 c =
     let e = rw c.row_count-rows.ensures at c.in_err-test_room-2.ensures.answer in
     let room = rw c.row_count-rows.ensures at c.in_ok-test_room.ensures.room in
     let u = untouched s a.table.now a.ranges.now (ends_full_ranges s a.table.now a.ranges.now (ok_zero c.in_ok-test.ensures) room c.in_err-test_room-2.field-0.0 e) in
-    record { answer = rw (p.1, p.2) u.0; left = u.1.0; told = u.1.1 }
+    record {
+      answer = rw (p.1, p.2) u.0;
+      left = u.1.0;
+      told = u.1.1;
+      guaranteed = rw p.1 tt;
+      held = rw p.1 tt;
+      never_empty = never_empty s a.table.now a.ranges.now u.1.1;
+      unused = unused s a.table.now a.ranges.now;
+    }
 
 pub work_rows-done-requires-clause-passed : goal.work_rows-done-requires-clause-passed
 work_rows-done-requires-clause-passed c =
@@ -125,10 +153,17 @@ returns c =
     let room_ranges = rw count at c.in_ok-test_room-2.ensures.room in
     let q : worked s n ≡ evaluated s a.table.now a.ranges.now =
     ap (worked s) count ∙ sym (ends_worked s a.table.now a.ranges.now tested_zero room room_ranges) in
+    let answer = told ∙ ap (λ v. v.refusal) q in
+    let left = e.left ∙ ap (λ v. table_after v.rows a.table.now) q in
+    let ranges_told = c.narrow.ensures
+    ∙ narrowed_left (passed s tested_zero) (omega (arith, count)) done a.ranges.now c.in_ok-test_room-2.ensures.room e.own
+    ∙ ap (λ v. ranges_after (answered_ranges s v.rows) a.ranges.now) q in
     record {
-      answer = told ∙ ap (λ v. v.refusal) q;
-      left = e.left ∙ ap (λ v. table_after v.rows a.table.now) q;
-      told = c.narrow.ensures
-          ∙ narrowed_left (passed s tested_zero) (omega (arith, count)) done a.ranges.now c.in_ok-test_room-2.ensures.room e.own
-          ∙ ap (λ v. ranges_after (answered_ranges s v.rows) a.ranges.now) q;
+      answer = answer;
+      left = left;
+      told = ranges_told;
+      guaranteed = guaranteed s a.table.now a.ranges.now _ answer left ranges_told;
+      held = held s a.table.now a.ranges.now _ answer left ranges_told;
+      never_empty = never_empty s a.table.now a.ranges.now ranges_told;
+      unused = unused s a.table.now a.ranges.now;
     }

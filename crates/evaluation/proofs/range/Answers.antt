@@ -15,8 +15,13 @@ returns-in_err-test_range c =
     let a = c.args in
     let p = err_from_is_err_and c.from_residual.result c.from_residual.ensures.1 in
     let e = c.in_err-test_range.field-0.0 in
-    rw (p.1, p.2)
-    (refused_answer (range_refusal a.table.now a.ranges.now a.count a.row) (range_told (range_at a.ranges.now (a.row - 1))) range_refused c.in_err-test_range.ensures (number_some e.cause))
+    record {
+      answer =
+          rw (p.1, p.2)
+          (refused_answer (range_refusal a.table.now a.ranges.now a.count a.row) (range_told (range_at a.ranges.now (a.row - 1))) range_refused c.in_err-test_range.ensures (number_some e.cause));
+      reads = rw p.1 tt;
+      ordered = rw p.1 tt;
+    }
 
 pub overflow_sub-row : goal.overflow_sub-row
 overflow_sub-row c = omega (arith, (range_accepted c.args.table.now c.args.ranges.now c.args.count c.args.row c.in_ok-test_range.ensures refl).holds.from_one)
@@ -31,4 +36,8 @@ unfolding range_of
 returns c =
     let a = c.args in
     let refused = range_refusal a.table.now a.ranges.now a.count a.row in
-    ap range_told c.get_range.ensures ∙ told_answer refused (range_told (range_at a.ranges.now (a.row - 1))) (range_refused refused) c.in_ok-test_range.ensures refl
+    record {
+      answer = ap range_told c.get_range.ensures ∙ told_answer refused (range_told (range_at a.ranges.now (a.row - 1))) (range_refused refused) c.in_ok-test_range.ensures refl;
+      reads = c.get_range.ensures;
+      ordered = rw c.get_range.ensures (range_accepted a.table.now a.ranges.now a.count a.row c.in_ok-test_range.ensures refl).ordered;
+    }

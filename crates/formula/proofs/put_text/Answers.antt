@@ -15,11 +15,11 @@ pub returns-in-Err : goal.returns-in-Err
 returns-in-Err c =
     let fits : text_room ≤ length c.args.text.now = search rules in
     refusal_shown c.args.block FORMULA_ROOM c.args.taken.now c.args.text.now c.put_refusal.new.text (omega arith) c.put_refusal.auto.text fits
-    c.in-Err.refused c.put_refusal.result c.in-Err.ensures (rw c.number.ensures at c.put_refusal.ensures)
+    c.in-Err.refused c.put_refusal.result c.in-Err.ensures.answer (rw c.number.ensures at c.put_refusal.ensures)
 
 pub returns-in-Ok : goal.returns-in-Ok
 returns-in-Ok c =
     let fits : text_room ≤ length c.args.text.now = search rules in
     let shown = sheet_shown c.args.block FORMULA_ROOM c.args.taken.now c.args.text.now c.write.new.out (omega arith) c.write.auto.out fits
-    c.in-Ok.schedule (write_answer c.write.result) c.in-Ok.ensures c.write.ensures in
+    c.in-Ok.schedule (write_answer c.write.result) c.in-Ok.ensures.answer c.in-Ok.ensures.passes c.write.ensures.written in
     rw (c.unwrap_or.ensures ∙ length_told c.write.result) shown

@@ -62,7 +62,7 @@ back_fits x y p q =
 pub overflow_sub-high : goal.overflow_sub-high
 overflow_sub-high c =
     let h = c.floor_quotient_4096-high in
-    rw (turned_back c.before h.result (back h.type_inv) h.ensures)
+    rw (turned_back c.before h.result (back h.type_inv) h.ensures.value)
     (back_fits c.args.x c.args.y c.requires.0 c.requires.1)
 
 pub returns : goal.returns
@@ -79,6 +79,6 @@ returns c =
     (back c.min-2.type_inv ∙ lesser_given c.min-2.ensures.value (given x.high y.low r.0.high_in r.1.low_in) (given x.high y.high r.0.high_in r.1.high_in))
     in
     λ i. record {
-      low = (back q.type_inv ∙ q.ensures ∙ ap (λ z. floor_quotient z (pos unit)) (back c.min-least.type_inv ∙ least)) i;
-      high = back_as (turned_back c.before h.result (back h.type_inv) h.ensures) (back_fits x y r.0 r.1) i;
+      low = (back q.type_inv ∙ q.ensures.value ∙ ap (λ z. floor_quotient z (pos unit)) (back c.min-least.type_inv ∙ least)) i;
+      high = back_as (turned_back c.before h.result (back h.type_inv) h.ensures.value) (back_fits x y r.0 r.1) i;
     }

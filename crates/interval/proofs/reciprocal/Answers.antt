@@ -41,7 +41,7 @@ overflow_sub-high c =
     let z = c.args.x.low in
     let h = c.floor_quotient-high in
     let low : to_z w64 (of_z w64 z) ≡ z = search rules in
-    rw (turned z h.result (back h.type_inv) h.ensures low) (turned_fits z)
+    rw (turned z h.result (back h.type_inv) h.ensures.value low) (turned_fits z)
 
 pub returns : goal.returns
 returns c =
@@ -51,6 +51,6 @@ returns c =
     let low : to_z w64 (of_z w64 x.low) ≡ x.low = search rules in
     let high : to_z w64 (of_z w64 x.high) ≡ x.high = search rules in
     λ i. record {
-      low = (back q.type_inv ∙ q.ensures ∙ ap (floor_quotient (pos unit_squared)) high) i;
-      high = back_as (turned x.low h.result (back h.type_inv) h.ensures low) (turned_fits x.low) i;
+      low = (back q.type_inv ∙ q.ensures.value ∙ ap (floor_quotient (pos unit_squared)) high) i;
+      high = back_as (turned x.low h.result (back h.type_inv) h.ensures.value low) (turned_fits x.low) i;
     }

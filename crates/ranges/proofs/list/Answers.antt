@@ -1,33 +1,27 @@
 -- `list` meets its contract: the tables are long enough, the text has room, and what was read says all of the input.
-use mathlib.Core.Path.{◌≡◌, sym, ap, ◌∙◌}
-use mathlib.Core.List.{List}
-use Prim.Native.Nat.{ℕ, ◌≤◌}
+use mathlib.Core.Path.{sym, ap, ◌∙◌}
+use Prim.Native.Nat.{◌≤◌}
 use native.Mathlib.Omega.{arith}
-use lib.IntN.{pos}
-use lib.ListN.{length, replicate}
 use borrow.Author.Rules.{rules}
-use Rattle.sheet.specs.Results.{write_answer}
-use Rattle.listing.specs.Listing.{table_numbers, ranges_numbers, text_of, printed}
+use lib.ListN.{length}
+use Rattle.sheet.specs.Reading.{read_of}
 use Rattle.listing.specs.Listed.{text_room}
-use Rattle.listing.proofs.BeginningTells.{beginning_tells}
-use Rattle.listing.proofs.TextCases.{length_told, listed_wrote}
-use Rattle.listing.proofs.TextFits.{text_fits}
-use Rattle.ranges.specs.declared.TheConstants.{SHEET_ROOM}
+use Rattle.listing.proofs.BeginningTells.{read_of_beginning}
+use Rattle.ranges.proofs.Shown.{within, wrote, prints_truth}
 use Rattle.ranges.proofs.list.Goals as goal
 
-pub returns : goal.returns
-returns c =
-    let read = c.args.read.now in
-    let table = replicate table_numbers (pos 0) in
-    let ranges = replicate ranges_numbers (pos 0) in
+pub returns-clause-within : goal.returns-clause-within
+returns-clause-within c =
+    let room : text_room ≤ length c.args.text.now = search rules in omega (arith, room, c.unwrap_or.ensures, within c.list.result c.list.ensures.fits, c.list.auto.text)
+
+pub returns-clause-wrote : goal.returns-clause-wrote
+returns-clause-wrote c =
+    λ input b.
+    let room : text_room ≤ length c.args.text.now = search rules in rw c.unwrap_or.ensures (wrote c.list.result room (c.list.ensures.beginning input b))
+
+pub returns-clause-truthful : goal.returns-clause-truthful
+returns-clause-truthful c =
+    λ input b.
     let room : text_room ≤ length c.args.text.now = search rules in
-    let end_is : c.unwrap_or.result ≡ (write_answer c.list.result).length = c.unwrap_or.ensures ∙ length_told c.list.result in
-    let w = listed_wrote read table ranges c.args.text.now room c.list.ensures in
-    record {
-      within = omega (arith, end_is, w.ends, text_fits read table ranges, c.list.auto.text);
-      prints =
-          λ input e.
-          let q : text_of read table ranges ≡ printed input =
-          ap (λ (l : List ℕ). text_of l table ranges) (sym e) ∙ beginning_tells SHEET_ROOM (omega arith) input table ranges in
-          rw (end_is, sym q) w;
-    }
+    let e = ap read_of (sym b.2) ∙ read_of_beginning b.0 b.1 input in
+    prints_truth c.args.read.now input c.list.result room e (c.list.ensures.beginning input b) c.list.ensures.listing c.list.ensures.truthful c.list.ensures.legible

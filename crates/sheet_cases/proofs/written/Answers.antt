@@ -20,6 +20,6 @@ sheet_fits c room = by_tests (eqb (test_of c).number 0) (ltb room (length (sheet
 
 pub slice_bounds-result-end : goal.slice_bounds-result-end
 slice_bounds-result-end c =
-    let n_is = (write_zero c.in_ok-n.n c.in_ok-n.ensures.answers).1 in
+    let n_is = (write_zero c.in_ok-n.n c.in_ok-n.ensures.written.answers).1 in
     let short = sheet_fits c.in_ok-schedule.schedule (length c.args.room.now) in
     omega (arith, c.write.auto.out, length-take {A = ℕ})

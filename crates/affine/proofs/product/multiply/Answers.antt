@@ -15,6 +15,7 @@ use Rattle.affine.proofs.Magnitude.{centre_product_fits}
 use Rattle.affine.proofs.Totals.{linear_total_none}
 use Rattle.affine.proofs.Parted.{divided, divided_none, remainders_small, remainders_small_used}
 use Rattle.affine.proofs.Fronts.{tabulate_none}
+use Rattle.affine.proofs.Agreement.{numbers_agree}
 use Rattle.affine.proofs.ProductRow.{error_small, row_small, row_is}
 use Rattle.affine.proofs.product.multiply.Goals as goal
 
@@ -85,14 +86,17 @@ check_with_own-requires c =
       none = (c.args.symbols.owned, rw c.put_front-linear.ensures.numbers (tabulate_none c.args.symbols.own (divided total).number none));
       small =
           row_small c.args.x c.args.y c.args.symbols c.divided-centre.result c.dropped_part-dropped.ensures c.divided-centre.ensures.remainder c.put_front-linear.ensures.rests c.put_pairs_in_use-pair.ensures.rests
-          centre c.divided-centre.ensures.quotient c.put_front-linear.ensures.numbers c.put_pairs_in_use-pair.ensures.numbers c.ceiling_quotient.ensures;
+          centre c.divided-centre.ensures.quotient c.put_front-linear.ensures.numbers c.put_pairs_in_use-pair.ensures.numbers c.ceiling_quotient.ensures.value;
     }
 
-pub returns : goal.returns
-returns c =
+pub returns-clause-value : goal.returns-clause-value
+returns-clause-value c =
     let fits : to_z w64 (of_z w64 c.divided-centre.result.number) ≡ c.divided-centre.result.number = search rules in
     let centre = ap (λ (r : Row). r.centre) c.constant_row-row.ensures ∙ fits in
     c.check_with_own.ensures.answer
     ∙ ap checked
     (row_is c.args.x c.args.y c.args.symbols c.divided-centre.result c.dropped_part-dropped.ensures c.divided-centre.ensures.remainder c.put_front-linear.ensures.rests c.put_pairs_in_use-pair.ensures.rests
-    centre c.divided-centre.ensures.quotient c.put_front-linear.ensures.numbers c.put_pairs_in_use-pair.ensures.numbers c.ceiling_quotient.ensures)
+    centre c.divided-centre.ensures.quotient c.put_front-linear.ensures.numbers c.put_pairs_in_use-pair.ensures.numbers c.ceiling_quotient.ensures.value)
+
+pub returns-clause-agreement : goal.returns-clause-agreement
+returns-clause-agreement c = numbers_agree c.args.symbols.squares c.args.symbols.own c.args.x.row c.args.y.row c.check_with_own.result (returns-clause-value c)

@@ -62,5 +62,5 @@ pub returns : goal.returns
 unfolding candidate_pair
 returns c =
     let x = c.args.x.now in
-    let centre = ap (λ (r : Row). r.centre) c.constant_row-row.ensures ∙ back c.floor_quotient.type_inv ∙ (rw (read_centre x c.requires.outweighs.0) at c.floor_quotient.ensures) in
+    let centre = ap (λ (r : Row). r.centre) c.constant_row-row.ensures ∙ back c.floor_quotient.type_inv ∙ (rw (read_centre x c.requires.outweighs.0) at c.floor_quotient.ensures.value) in
     λ i. record { centre = centre i; linear = linear_is x c.requires.outweighs.0 c.put_front.ensures.numbers i; pair = c.put_pairs_in_use.ensures.numbers i }

@@ -54,7 +54,7 @@ check_with_own-requires c =
     record {
       none = (y.owned, candidate_none c.args.symbols.squares c.args.x.now.row c.requires.none.0 c.candidate-z.ensures);
       small =
-          own_small y.squares y.own x.row c.args.distance c.candidate-z.ensures refl c.error_bound-bound.ensures c.ceiling_quotient.ensures x.within
+          own_small y.squares y.own x.row c.args.distance c.candidate-z.ensures refl c.error_bound-bound.ensures c.ceiling_quotient.ensures.value x.within
           (measured_within c.candidate-z.result told) c.requires.none.1;
     }
 
@@ -66,4 +66,4 @@ returns c =
     let inside = (rw c.candidate-z.ensures at (measured_inside c.candidate-z.result told)) in
     rw inside
     (c.check_with_own.ensures.answer
-    ∙ ap checked (row_is y.squares y.own x c.args.distance c.candidate-z.ensures refl c.error_bound-bound.ensures c.ceiling_quotient.ensures))
+    ∙ ap checked (row_is y.squares y.own x c.args.distance c.candidate-z.ensures refl c.error_bound-bound.ensures c.ceiling_quotient.ensures.value))

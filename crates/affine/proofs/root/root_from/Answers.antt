@@ -81,7 +81,7 @@ overflow_add-own c =
     let m = c.root_candidate-z.result in
     let e : Some c.in_ok-size.size ≡ measured c.root_candidate-z.result = search rules in
     let d = (rw (to_z-of_z w64 c.args.least c.ranges.least) at c.unit_root.ensures) in
-    let small = own_small y.squares y.own c.args.x.now c.args.least c.root_candidate-z.ensures refl c.square_error-bound.ensures d c.ceiling_quotient-own.ensures
+    let small = own_small y.squares y.own c.args.x.now c.args.least c.root_candidate-z.ensures refl c.square_error-bound.ensures d c.ceiling_quotient-own.ensures.value
     c.requires.none.1 (measured_within m e) c.requires.least.0 in
     record { fits = omega (arith, small) }
 
@@ -94,7 +94,7 @@ check_with_own-requires c =
     record {
       none = (y.owned, candidate_none c.args.x.now c.requires.none.0 c.root_candidate-z.ensures);
       small =
-          own_small y.squares y.own c.args.x.now c.args.least c.root_candidate-z.ensures refl c.square_error-bound.ensures d c.ceiling_quotient-own.ensures
+          own_small y.squares y.own c.args.x.now c.args.least c.root_candidate-z.ensures refl c.square_error-bound.ensures d c.ceiling_quotient-own.ensures.value
           c.requires.none.1 (measured_within m e) c.requires.least.0;
     }
 
@@ -109,4 +109,4 @@ returns c =
     let d = (rw (to_z-of_z w64 c.args.least c.ranges.least) at c.unit_root.ensures) in
     rw (inside, not_below)
     (c.check_with_own.ensures.answer
-    ∙ ap checked (row_is y.squares y.own c.args.x.now c.args.least c.root_candidate-z.ensures refl c.square_error-bound.ensures d c.ceiling_quotient-own.ensures))
+    ∙ ap checked (row_is y.squares y.own c.args.x.now c.args.least c.root_candidate-z.ensures refl c.square_error-bound.ensures d c.ceiling_quotient-own.ensures.value))

@@ -40,7 +40,7 @@ floor_quotient-centre-requires c =
 pub overflow_sub-v : goal.overflow_sub-v
 overflow_sub-v c =
     let (few, hl, hh) = c.requires in
-    own_machine_fits c.args.low c.args.high hl hh c.ranges.low c.ranges.high c.floor_quotient-centre.ensures
+    own_machine_fits c.args.low c.args.high hl hh c.ranges.low c.ranges.high c.floor_quotient-centre.ensures.value
 
 -- what the code finds of an input with these ends: its centre m, its own coefficient v, and their absolute values n and r
 module _ (own : ℕ) (low high : ℤ) (few : own < symbols) {m v : ℤ} {n r : ℕ}
@@ -55,8 +55,8 @@ pub overflow_add-unsigned_abs : goal.overflow_add-unsigned_abs
 overflow_add-unsigned_abs c =
     let a = c.args in
     let (few, hl, hh) = c.requires in
-    let em = centre_is a.low a.high hl hh c.ranges.low c.ranges.high c.floor_quotient-centre.ensures in
-    let ev = own_is a.low a.high hl hh c.ranges.low c.ranges.high c.floor_quotient-centre.ensures in
+    let em = centre_is a.low a.high hl hh c.ranges.low c.ranges.high c.floor_quotient-centre.ensures.value in
+    let ev = own_is a.low a.high hl hh c.ranges.low c.ranges.high c.floor_quotient-centre.ensures.value in
     let s = span_is a.own a.low a.high few em ev c.unsigned_abs.ensures.value c.unsigned_abs-radius.ensures.value in
     record { fits = omega (arith, s, span_input a.own a.low a.high few, both_within a.low a.high hl hh) }
 
@@ -64,8 +64,8 @@ pub returns-then-unsigned_abs-radius-gt-SPAN_LIMIT : goal.returns-then-unsigned_
 returns-then-unsigned_abs-radius-gt-SPAN_LIMIT c =
     let a = c.args in
     let (few, hl, hh) = c.requires in
-    let em = centre_is a.low a.high hl hh c.ranges.low c.ranges.high c.floor_quotient-centre.ensures in
-    let ev = own_is a.low a.high hl hh c.ranges.low c.ranges.high c.floor_quotient-centre.ensures in
+    let em = centre_is a.low a.high hl hh c.ranges.low c.ranges.high c.floor_quotient-centre.ensures.value in
+    let ev = own_is a.low a.high hl hh c.ranges.low c.ranges.high c.floor_quotient-centre.ensures.value in
     let s = span_is a.own a.low a.high few em ev c.unsigned_abs.ensures.value c.unsigned_abs-radius.ensures.value in
     rw (lt-leb (span (input_row a.own a.low a.high)) span_limit (rw s at c.if-unsigned_abs-radius-gt-SPAN_LIMIT.true)) refl
 
@@ -73,8 +73,8 @@ pub returns : goal.returns
 returns c =
     let a = c.args in
     let (few, hl, hh) = c.requires in
-    let em = centre_is a.low a.high hl hh c.ranges.low c.ranges.high c.floor_quotient-centre.ensures in
-    let ev = own_is a.low a.high hl hh c.ranges.low c.ranges.high c.floor_quotient-centre.ensures in
+    let em = centre_is a.low a.high hl hh c.ranges.low c.ranges.high c.floor_quotient-centre.ensures.value in
+    let ev = own_is a.low a.high hl hh c.ranges.low c.ranges.high c.floor_quotient-centre.ensures.value in
     let s = span_is a.own a.low a.high few em ev c.unsigned_abs.ensures.value c.unsigned_abs-radius.ensures.value in
     let w : Row = with_own a.own (to_z w64 (of_z w64 (to_z w64 (of_z w64 a.high) -ℤ to_z w64 (of_z w64 c.floor_quotient-centre.result)))) c.constant_row-row.result in
     let row : w ≡ input_row a.own a.low a.high = ap₂ (with_own a.own) ev (c.constant_row-row.ensures ∙ ap constant_row em) in

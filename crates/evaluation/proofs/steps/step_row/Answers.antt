@@ -44,7 +44,7 @@ returns-in-Product c =
     let s = c.args.symbols in
     let h = c.in-Product.ensures in
     two_rows c.requires.step_passed h (omega arith) (omega arith) s.squares e.table.now e.ranges.now c.operand.ensures c.operand-in-Product.ensures
-    (rw h.by_code c.multiply.ensures)
+    (rw h.by_code c.multiply.ensures.value)
 
 pub returns-in-Sum : goal.returns-in-Sum
 unfolding binary_answer

@@ -1,5 +1,5 @@
 -- `nearest_quotient_4096` meets its contract: a shift is the division rounded down; a number of halves leaves room for one more.
-use mathlib.Core.Path.{ap, ◌∙◌}
+use mathlib.Core.Path.{sym, ap, ◌∙◌}
 use mathlib.Core.Logic.{◌≢◌}
 use native.Mathlib.Omega.{arith}
 use lib.IntN.{ℤ, pos, nat_abs, ◌+ℤ◌}
@@ -10,7 +10,7 @@ use mir.ValLaws.{to_z-of_z, sfits_le}
 use Rattle.integer.specs.Floor.{floor_quotient}
 use Rattle.integer.proofs.Absolute.{nat_abs_add, nat_abs_of_fits, fits_of_nat_abs}
 use Rattle.integer.proofs.Floor.{nat_abs_quotient_product, shift_is_floor}
-use Rattle.integer.proofs.NearestLaws.{nearest_by_halves}
+use Rattle.integer.proofs.NearestLaws.{nearest_by_halves, nearest_unique, nearest_as, none_left_less, not_above, remainder_runs}
 use Rattle.integer.proofs.division.nearest_quotient_4096.Goals as goal
 
 halves_fit : (a : ℤ) → SFits w64 a → SFits w64 (shr_z a 2048)
@@ -32,10 +32,25 @@ more_fits a f =
 pub overflow_add-result : goal.overflow_add-result
 overflow_add-result c = let f = c.ranges.a in rw (to_z-of_z w64 _ f, to_z-of_z w64 _ (halves_fit c.args.a f)) (more_fits c.args.a f)
 
-pub returns : goal.returns
-returns c =
+pub returns-clause-value : goal.returns-clause-value
+returns-clause-value c =
     let a = c.args.a in
     let f = c.ranges.a in
     let fits = more_fits a f in
     rw (to_z-of_z w64 _ f, to_z-of_z w64 _ (halves_fit a f), to_z-of_z w64 _ fits, to_z-of_z w64 _ (sfits_le (mag_shr (shr_z a 2048 +ℤ more) 2) fits))
     (shift_is_floor _ 2 ∙ ap (λ z. floor_quotient (z +ℤ more) (pos 2)) (shift_is_floor a 2048) ∙ nearest_by_halves a 2048 (omega arith))
+
+pub returns-clause-nearest : goal.returns-clause-nearest
+returns-clause-nearest c = nearest_as (omega arith) (returns-clause-value c)
+
+pub returns-clause-only : goal.returns-clause-only
+returns-clause-only c = λ q r n. (nearest_unique c.args.a 4096 q r (omega arith) n).0 ∙ sym (returns-clause-value c)
+
+pub returns-clause-none_nearer : goal.returns-clause-none_nearer
+returns-clause-none_nearer c = λ p. none_left_less (returns-clause-nearest c) p (omega arith)
+
+pub returns-clause-halves_upward : goal.returns-clause-halves_upward
+returns-clause-halves_upward c = λ p. not_above (returns-clause-nearest c) p (omega arith)
+
+pub returns-clause-remainder : goal.returns-clause-remainder
+returns-clause-remainder c = remainder_runs (returns-clause-nearest c)

@@ -13,7 +13,7 @@ put_count-at-requires c = omega (arith, c.put_bytes-at.ensures.ends, c.put_bytes
 
 pub put_bytes-at-requires-2 : goal.put_bytes-at-requires-2
 put_bytes-at-requires-2 c =
-    omega (arith, c.put_bytes-at.ensures.ends, c.put_bytes-at.auto.out, c.put_count-at.ensures.ends, c.put_count-at.auto.out, numeral_short (pos c.args.number), c.requires)
+    omega (arith, c.put_bytes-at.ensures.ends, c.put_bytes-at.auto.out, c.put_count-at.ensures.written.ends, c.put_count-at.auto.out, numeral_short (pos c.args.number), c.requires)
 
 pub put_count-at-requires-2 : goal.put_count-at-requires-2
 put_count-at-requires-2 c =
@@ -21,7 +21,7 @@ put_count-at-requires-2 c =
       arith,
       c.put_bytes-at.ensures.ends,
       c.put_bytes-at.auto.out,
-      c.put_count-at.ensures.ends,
+      c.put_count-at.ensures.written.ends,
       c.put_count-at.auto.out,
       c.put_bytes-at-2.ensures.ends,
       c.put_bytes-at-2.auto.out,
@@ -36,11 +36,11 @@ put_bytes-requires c =
       arith,
       c.put_bytes-at.ensures.ends,
       c.put_bytes-at.auto.out,
-      c.put_count-at.ensures.ends,
+      c.put_count-at.ensures.written.ends,
       c.put_count-at.auto.out,
       c.put_bytes-at-2.ensures.ends,
       c.put_bytes-at-2.auto.out,
-      c.put_count-at-2.ensures.ends,
+      c.put_count-at-2.ensures.written.ends,
       c.put_count-at-2.auto.out,
       numeral_short (pos c.args.number),
       numeral_short (pos c.args.place),
@@ -50,5 +50,5 @@ put_bytes-requires c =
 pub returns : goal.returns
 unfolding refusal_text line
 returns c =
-    let w = wrote_then (wrote_then (wrote_then (wrote_then c.put_bytes-at.ensures c.put_count-at.ensures) c.put_bytes-at-2.ensures) c.put_count-at-2.ensures) c.put_bytes.ensures in
+    let w = wrote_then (wrote_then (wrote_then (wrote_then c.put_bytes-at.ensures c.put_count-at.ensures.written) c.put_bytes-at-2.ensures) c.put_count-at-2.ensures.written) c.put_bytes.ensures in
     simp append_assoc at w

@@ -1,0 +1,12 @@
+// What is claimed of all schedules, and of numbers wherever they stand. Each function has no code: its contract is the claim.
+ghost use Rattle.sheet.specs.LongestSheet.{LongestSheet};
+ghost use Rattle.sheet.specs.RoundTrip.{NumeralsReadBack};
+
+#[tactic(auto, using(crate::proofs::SheetLength::longest_sheet_is))]
+pub fn longest_sheet()
+    ensures { LongestSheet }
+{}
+
+pub fn numerals_read_back()
+    ensures { NumeralsReadBack }
+{}
