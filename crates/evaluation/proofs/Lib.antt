@@ -11,6 +11,7 @@ pub mod Made
 pub mod RowFacts
 pub mod PartLaws
 pub mod RowParts
+pub mod AnswerLaws
 pub mod AskingLaws
 pub mod TableLaws
 pub mod Pasted

@@ -1,6 +1,7 @@
 // What is claimed of the definitions that contracts cite. Each function has no code: its contract is the claim.
 ghost use Rattle.std.specs.Prelude.{◌≡◌};
 ghost use Rattle.evaluation.specs.Table.{row_width, range_width};
+ghost use Rattle.evaluation.specs.Answers.{RangeAnswersTell, SameAnswersTell};
 ghost use Rattle.evaluation.specs.Roots.{CandidatesStartFromZero, MissesEveryNumber};
 ghost use Rattle.evaluation.specs.Examples.{ExamplesHold};
 
@@ -19,4 +20,9 @@ pub fn roots()
 
 pub fn examples()
     ensures { ExamplesHold }
+{}
+
+pub fn answers()
+    ensures ranges { RangeAnswersTell }
+    ensures comparisons { SameAnswersTell }
 {}

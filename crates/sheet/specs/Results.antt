@@ -1,6 +1,6 @@
 -- The answer of `Answers.antt` that each result of the code stands for: "Where the answer is an enum, there is a definition that gives
 -- this paper's number and values for each of its cases."
-use Rattle.std.specs.Prelude.{Bool, true, false, Option, Some, None, Result, Ok, Err, List, ◌∷◌, ◌++◌, ℕ, ℤ, eqb, ltb, decimal}
+use Rattle.std.specs.Prelude.{◌≡◌, Bool, true, false, Option, Some, None, Result, Ok, Err, List, ◌∷◌, ◌++◌, ℕ, ℤ, eqb, ltb, decimal}
 use Rattle.sheet.specs.Choice.{pick}
 use Rattle.sheet.specs.Answers.{Refusal, ReadAnswer, WriteAnswer, Field, Number, Broken, Fields, Part}
 use Rattle.sheet.specs.Causes.{refusal, accepted}
@@ -74,3 +74,13 @@ fault_told fault n = pick (eqb fault 0) accepted (refusal fault n)
 abbrev pub part : Schedule → Result ℕ Refused → Part
 part c (Ok next) = part_read next c
 part c (Err r) = part_refused (refusal_of r)
+
+-- ---- the claims: an answer tells its result, so that a contract that gives the answer leaves one result
+abbrev pub TestAnswersTell : Type 0
+TestAnswersTell = (a b : Result (Unit {0}) Refused) → tested a ≡ tested b → a ≡ b
+
+abbrev pub ReadAnswersTell : Type 0
+ReadAnswersTell = (a b : Result Schedule Refused) → read_answer a ≡ read_answer b → a ≡ b
+
+abbrev pub WriteAnswersTell : Type 0
+WriteAnswersTell = (a b : Result ℕ Refused) → write_answer a ≡ write_answer b → a ≡ b

@@ -15,7 +15,7 @@ ghost use Rattle.sheet.specs.Same.{trimmed};
 ghost use Rattle.sheet.specs.RoundTrip.{SheetOf, WritesBack, ReadsAgain};
 ghost use Rattle.sheet.specs.FirstFault.{FirstFault};
 
-pub mod claims; // claims.rt: what is claimed of all schedules, and of numbers
+pub mod claims; // claims.rt: what is claimed of all schedules, of numbers and of answers
 mod causes; // causes.rt: why a call is refused
 mod number; // number.rt: a number field, read and written
 mod fields; // fields.rt: a line of fields, read and written
