@@ -4,7 +4,7 @@ use mathlib.Core.Logic.{◌⊎◌, inl, inr}
 use mathlib.Core.Bool.{Bool, true, false}
 use Prim.Native.Nat.{ℕ, zero, suc, ◌+◌, ◌<◌}
 use native.Mathlib.Omega.{arith}
-use borrow.Author.Tests.{ltb-true, lt-leb, lt-ltb}
+use borrow.Author.Tests.{ltb-true, ltb-false, lt-leb, le-leb, lt-ltb}
 use lib.Dec.{T, leb-zero}
 use lib.IntN.{ℤ, pos, negsuc, neg_ℤ, nat_abs, ◌+ℤ◌, ◌-ℤ◌}
 use lib.Signed.{lt_z, le_z}
@@ -16,7 +16,9 @@ use Rattle.affine.specs.declared.Row.{Row}
 use Rattle.affine.specs.declared.Range.{Range}
 use Rattle.affine.specs.Lists.{pick}
 use Rattle.affine.specs.Row.{pairs_below, pairs_above, low, high, form_range}
-use Rattle.affine.specs.Reciprocal.{zero_in_range, distance, Outweighs, ApartOutweighs}
+use Rattle.affine.specs.Answer.{ZeroInRange}
+use Rattle.affine.specs.Steps.{refused}
+use Rattle.affine.specs.Reciprocal.{zero_in_range, distance, reciprocal, reciprocal_apart, Outweighs, ApartOutweighs}
 use Rattle.affine.specs.Root.{Centred}
 use Rattle.affine.proofs.RangeSize.{low_not_above_centre}
 
@@ -27,9 +29,40 @@ above_not_below (pos m) (negsuc n) e = absurd (let z : ◌≡◌ {A = ℕ} 0 1 =
 above_not_below (negsuc m) (pos n) e = refl
 above_not_below (negsuc m) (negsuc n) e = lt-leb m n (ltb-true n m e)
 
+not_above_below : (a b : ℤ) → lt_z a b ≡ false → le_z b a ≡ true
+not_above_below (pos m) (pos n) e = le-leb n m (ltb-false m n e)
+not_above_below (pos m) (negsuc n) e = refl
+not_above_below (negsuc m) (pos n) e = absurd (let z : ◌≡◌ {A = ℕ} 0 1 = cc in omega arith)
+not_above_below (negsuc m) (negsuc n) e = le-leb m n (ltb-false n m e)
+
+-- an end on either side is not 0
+pub some_above : (z : ℤ) → lt_z (pos 0) z ≡ true → 0 < nat_abs z
+some_above (pos n) e = ltb-true 0 n e
+some_above (negsuc n) e = omega arith
+
+pub some_below : (z : ℤ) → lt_z z (pos 0) ≡ true → 0 < nat_abs z
+some_below (pos n) e = absurd (let h = ltb-true n 0 e in omega arith)
+some_below (negsuc n) e = omega arith
+
 -- a range above 0 does not hold 0
 pub apart_above : (range : Range) → lt_z (pos 0) range.low ≡ true → zero_in_range range ≡ false
 apart_above range e = rw (above_not_below (pos 0) range.low e)
+
+-- ---- the other ways
+module _ (range : Range) where
+  pub apart_below : lt_z (pos 0) range.low ≡ false → lt_z range.high (pos 0) ≡ true → zero_in_range range ≡ false
+  apart_below e f = rw (not_above_below (pos 0) range.low e, above_not_below range.high (pos 0) f)
+
+  module _ (squares own : ℕ) (x : Row) where
+    pub reciprocal_above : lt_z (pos 0) range.low ≡ true → reciprocal squares own x range ≡ reciprocal_apart squares own x (nat_abs range.low)
+    reciprocal_above e = rw (above_not_below (pos 0) range.low e, e)
+
+    pub reciprocal_below : lt_z (pos 0) range.low ≡ false → lt_z range.high (pos 0) ≡ true
+        → reciprocal squares own x range ≡ reciprocal_apart squares own x (nat_abs range.high)
+    reciprocal_below e f = rw (not_above_below (pos 0) range.low e, above_not_below range.high (pos 0) f, e)
+
+    pub reciprocal_none : lt_z (pos 0) range.low ≡ false → lt_z range.high (pos 0) ≡ false → reciprocal squares own x range ≡ refused ZeroInRange
+    reciprocal_none e f = rw (not_above_below (pos 0) range.low e, not_above_below range.high (pos 0) f)
 
 -- ---- the distance from 0 is the end on that side
 ends_apart : (l h : ℤ) → pick (le_z l (pos 0)) (le_z (pos 0) h) false ≡ false

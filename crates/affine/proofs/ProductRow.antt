@@ -27,8 +27,8 @@ use Rattle.affine.proofs.RowSize.{span_is_sum}
 use Rattle.affine.proofs.Totals.{dropped_of_radii}
 use Rattle.affine.proofs.Rounding.{product_rounds, quotient_zero, remainder_zero}
 use Rattle.affine.proofs.Magnitude.{totals_within, centre_product_fits}
-use Rattle.affine.proofs.ProductError.{error_within}
-use Rattle.affine.proofs.SpanSize.{span_map}
+use Rattle.affine.proofs.ProductError.{all_remainders, error_within}
+use Rattle.affine.proofs.SpanSize.{span_own, span_map}
 use Rattle.affine.proofs.Parted.{divided}
 use Rattle.affine.proofs.Divided.{map_linear_totals, map_pair_totals}
 
@@ -38,6 +38,22 @@ read_product x y = to_z w64 (of_z w64 (to_z w64 (of_z w64 x.centre) *ℤ to_z w6
 
 pub product_is : (x y : Row) → span x ≤ span_limit → span y ≤ span_limit → read_product x y ≡ x.centre *ℤ y.centre
 product_is x y hx hy = operation_gives ◌*ℤ◌ (centre_fits x hx) (centre_fits y hy) (centre_product_fits x y hx hy)
+
+-- how large the new row can be, whatever bounds the spans of the operands
+pub span_product : (squares own : ℕ) (x y : Row) {n : ℕ} → span x ≤ n → span y ≤ n
+    → span (product_row squares own x y) ≤ 2 * (n * n) + unit * (1 + symbols + pairs)
+unfolding product_row product_own
+span_product squares own x y hx hy =
+    let t = totals squares x y in
+    omega (
+      arith,
+      span_own own (pos (product_own squares x y)) (map_row product_rounding.quotient t),
+      span_map product_rounding.quotient product_rounds.quotient_within t,
+      span_is_sum t,
+      totals_within squares x y hx hy,
+      ceiling_at_most (dropped squares x y + all_remainders squares x y) unit (omega arith),
+      error_within squares x y hx hy,
+    )
 
 abbrev all_totals : Operand → Operand → Symbols → Row
 all_totals x y s = totals s.squares x.row y.row

@@ -4,6 +4,7 @@ use mathlib.Core.Logic.{◌≢◌, ◌↔◌}
 use mathlib.Core.Bool.{Bool, true, false}
 use mathlib.Core.List.{List, []}
 use Prim.Native.Nat.{ℕ, ◌-◌, ◌*◌, ◌≤◌, min, max}
+use native.Mathlib.Nat.{min-eq_left, min-eq_right, max-eq_left, max-eq_right}
 use native.Mathlib.Omega.{arith}
 use native.Mathlib.Decide.{ℕ_discrete}
 use borrow.Author.Tests.{eq-eqb, ne_eqb, eqb-true, le-leb, leb-true}
@@ -149,6 +150,15 @@ range_tests table ranges count row =
     let rest = or_else (ranges_refusal ranges count) (or_else (lent_row table row) (lent_range ranges row)) in
     sym (or_else_chain (named_refusal count row) (room_refusal row_width table count) rest)
     ∙ ap (λ t. or_else t rest) (one_named (is_row count row) (leb count max_rows) (room_refusal row_width table count))
+
+-- the row with the lower number is tested first
+pub lower_first : (table : List ℤ) {low high : ℕ} → low ≤ high
+    → or_else (lent_row table low) (lent_row table high) ≡ or_else (lent_row table (min low high)) (lent_row table (max low high))
+lower_first table h = ap₂ (λ (m n : ℕ). or_else (lent_row table m) (lent_row table n)) (sym (min-eq_left h)) (sym (max-eq_right h))
+
+pub lower_second : (table : List ℤ) {low high : ℕ} → low ≤ high
+    → or_else (lent_row table low) (lent_row table high) ≡ or_else (lent_row table (min high low)) (lent_row table (max high low))
+lower_second table h = ap₂ (λ (m n : ℕ). or_else (lent_row table m) (lent_row table n)) (sym (min-eq_right h)) (sym (max-eq_left h))
 
 pub rows_tests : (table : List ℤ) (count first second : ℕ)
     → or_else (named_refusal count first) (or_else (named_refusal count second) (or_else (room_refusal row_width table count) (or_else (lent_row table (min first second)) (lent_row table (max first second)))))

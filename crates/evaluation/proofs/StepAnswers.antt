@@ -66,6 +66,28 @@ module _ {n k : ℕ} {z : ℤ} (named : Natural 1 n z) (index : k ≡ index_of z
   named_range_is : (ranges : List ℤ) {r : Range} → r ≡ range_at ranges k → r ≡ named_range (ranges_in ranges n) z
   named_range_is ranges read = read ∙ ap (range_at ranges) index ∙ sym (named_range_ranges_in ranges n z named)
 
+-- the answer, by the code
+module _ (squares : ℕ) (table ranges : List ℤ) (n : ℕ) (t : Step) where
+  pub unary_step : {a : Answer} {x : Row} {range : Range} → last_binary < natural t.code → x ≡ named_row (rows_in table n) t.first
+      → range ≡ named_range (ranges_in ranges n) t.first → a ≡ unary_answer squares n t.code x range
+      → a ≡ step_answer squares (rows_in table n) (ranges_in ranges n) t
+  unfolding step_answer
+  unary_step {a} {x} {range} unary named told q =
+      q
+      ∙ ap (λ m. unary_answer squares m t.code x range) (sym (length_rows_in table n))
+      ∙ ap₂ (unary_answer squares (length (rows_in table n)) t.code) named told
+      ∙ rw (ne_eqb (natural t.code) 1 (λ e. omega arith), lt-leb (natural t.code) last_binary unary)
+
+  pub binary_step : {a : Answer} {x y : Row} → (natural t.code ≡ 1 → ⊥) → natural t.code ≤ last_binary
+      → x ≡ named_row (rows_in table n) t.first → y ≡ named_row (rows_in table n) t.second → a ≡ binary_answer squares n t.code x y
+      → a ≡ step_answer squares (rows_in table n) (ranges_in ranges n) t
+  unfolding step_answer
+  binary_step {a} {x} {y} not_constant binary first second q =
+      q
+      ∙ ap (λ m. binary_answer squares m t.code x y) (sym (length_rows_in table n))
+      ∙ ap₂ (binary_answer squares (length (rows_in table n)) t.code) first second
+      ∙ rw (ne_eqb _ 1 not_constant, le-leb (natural t.code) last_binary binary)
+
 -- the answer of a step that passed where n rows are earlier, by its operation
 module _ {n : ℕ} {t : Step} (passed : StepPassed n t.code t.first t.second t.value) where
   module _ {code i j : ℕ} (does : Binary code i j t) (from : 2 ≤ code) (to : code ≤ last_binary) where
@@ -88,12 +110,9 @@ module _ {n : ℕ} {t : Step} (passed : StepPassed n t.code t.first t.second t.v
 
     pub two_rows : (squares : ℕ) (table ranges : List ℤ) {a : Answer} {x y : Row} → x ≡ row_at table i → y ≡ row_at table j
         → a ≡ binary_answer squares n t.code x y → a ≡ step_answer squares (rows_in table n) (ranges_in ranges n) t
-    unfolding step_answer
-    two_rows squares table ranges {a} {x} {y} first second q =
-        q
-        ∙ ap (λ m. binary_answer squares m t.code x y) (sym (length_rows_in table n))
-        ∙ ap₂ (binary_answer squares (length (rows_in table n)) t.code) (named_is first_named does.first_is table first) (named_is second_named does.second_is table second)
-        ∙ rw (ne_eqb (natural t.code) 1 (λ e. omega (arith, does.by_code, from)), le-leb (natural t.code) last_binary (omega (arith, does.by_code, to)))
+    two_rows squares table ranges first second q =
+        binary_step squares table ranges n t (λ e. omega (arith, does.by_code, from)) (omega (arith, does.by_code, to))
+        (named_is first_named does.first_is table first) (named_is second_named does.second_is table second) q
 
   module _ {code i : ℕ} (does : Unary code i t) (from : last_binary < code) where
     only_named : Natural 1 n t.first
@@ -104,12 +123,9 @@ module _ {n : ℕ} {t : Step} (passed : StepPassed n t.code t.first t.second t.v
 
     pub one_row : (squares : ℕ) (table ranges : List ℤ) {a : Answer} {x : Row} {range : Range} → x ≡ row_at table i → range ≡ range_at ranges i
         → a ≡ unary_answer squares n t.code x range → a ≡ step_answer squares (rows_in table n) (ranges_in ranges n) t
-    unfolding step_answer
-    one_row squares table ranges {a} {x} {range} read told q =
-        q
-        ∙ ap (λ m. unary_answer squares m t.code x range) (sym (length_rows_in table n))
-        ∙ ap₂ (unary_answer squares (length (rows_in table n)) t.code) (named_is only_named does.first_is table read) (named_range_is only_named does.first_is ranges told)
-        ∙ rw (ne_eqb (natural t.code) 1 (λ e. omega (arith, does.by_code, from)), lt-leb (natural t.code) last_binary (omega (arith, does.by_code, from)))
+    one_row squares table ranges read told q =
+        unary_step squares table ranges n t (omega (arith, does.by_code, from))
+        (named_is only_named does.first_is table read) (named_range_is only_named does.first_is ranges told) q
 
 pub no_row : {v : ℤ} {t : Step} → Nullary v t → (squares n : ℕ) (table ranges : List ℤ) {a : Answer} → a ≡ checked (constant_row v)
     → a ≡ step_answer squares (rows_in table n) (ranges_in ranges n) t

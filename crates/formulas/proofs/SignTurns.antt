@@ -262,3 +262,7 @@ operand_right rank {p = p} r = record {
   few_steps = r.few_steps;
   few_rows = r.few_rows;
 }
+
+-- a break of an operand is one of every rank
+pub operand_breaks : (rank : ℕ) (bytes : List ℕ) (inputs nesting at place : ℕ) → Breaks bytes inputs 0 nesting at place → Breaks bytes inputs rank nesting at place
+operand_breaks rank bytes inputs nesting at place b o around d = b (opened rank o) around d

@@ -3,7 +3,7 @@
 use mathlib.Core.Path.{◌≡◌, refl, sym, ap, ◌∙◌, subst}
 use mathlib.Core.Logic.{◌≢◌, ⊎_elim}
 use Prim.Native.Nat.{ℕ, zero, suc, ◌+◌, ◌-◌, ◌*◌, ◌/◌, ◌%◌, ◌≤◌, ◌<◌, zero-le}
-use native.Mathlib.Nat.{div-add-mod', mod-lt, div-le_self, suc-mul, lt-div-mul-add, div-lt_iff_lt-mul, lt_of_mul-lt-mul_right, zero-div}
+use native.Mathlib.Nat.{div-add-mod', mod-lt, div-le_self, suc-mul, lt-div-mul-add, div-lt_iff_lt-mul, lt_of_mul-lt-mul_right, le_of_mul-le-mul_right, le_antisymm, zero-div}
 use native.Mathlib.Omega.{arith}
 use lib.IntN.{ℤ, pos, negsuc, neg_ℤ, nat_abs, ◌+ℤ◌, ◌-ℤ◌, ◌*ℤ◌}
 use lib.Signed.{shr_z, ◌≤ℤ◌, ◌<ℤ◌}
@@ -186,6 +186,24 @@ ceiling_least n d q h k =
 pub ceiling_at_most : (n d : ℕ) → 0 < d → ceiling_quotient n d ≤ n
 ceiling_at_most n zero h = elim h [ ]
 ceiling_at_most n (suc d) h = ceiling_least n (suc d) n h (omega arith)
+
+-- by quotient and remainder of naturals
+pub ceiling_exact : (n d : ℕ) → 0 < d → n % d ≡ 0 → ceiling_quotient n d ≡ n / d
+ceiling_exact n d h e =
+    let s = div-add-mod' n d in
+    let c = ceiling_covers n d h in
+    let l : n / d * d ≤ ceiling_quotient n d * d = omega arith in
+    le_antisymm (ceiling_least n d (n / d) h (omega arith)) (le_of_mul-le-mul_right l h)
+
+pub ceiling_more : (n d : ℕ) → 0 < d → 0 < n % d → ceiling_quotient n d ≡ n / d + 1
+ceiling_more n d h k =
+    let s = div-add-mod' n d in
+    let t = mod-lt n h in
+    let c = ceiling_covers n d h in
+    let l : n / d * d < ceiling_quotient n d * d = omega arith in
+    let u : n / d < ceiling_quotient n d = lt_of_mul-lt-mul_right d l in
+    let v : ceiling_quotient n d ≤ n / d + 1 = ceiling_least n d (n / d + 1) h (omega arith) in
+    omega arith
 
 -- of natural numbers both ways to round up are one
 pub ups_agree : (n d : ℕ) → 0 < d → rounded_up (pos n) (pos d) ≡ pos (ceiling_quotient n d)

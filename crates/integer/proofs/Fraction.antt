@@ -2,12 +2,13 @@
 -- law with a hypothesis a certificate; a lower part cancels, being above 0. Past this file no proof looks at upper and lower parts.
 use mathlib.Core.Path.{◌≡◌, refl, sym, subst}
 use mathlib.Core.Logic.{◌≢◌, ◌⊎◌, inl, inr}
+use mathlib.Core.Bool.{Bool, true, false}
 use mathlib.Core.List.{[], ◌∷◌}
 use Prim.Native.Nat.{ℕ, zero, suc, zero-le}
 use native.Mathlib.Omega.{arith}
 use lib.Dec.{T, ltb}
 use lib.IntN.{ℤ, pos, negsuc, ◌+ℤ◌, ◌*ℤ◌}
-use lib.Signed.{◌≤ℤ◌, ◌<ℤ◌, clash_ℤ}
+use lib.Signed.{lt_z, lt_z_yes, ◌≤ℤ◌, ◌<ℤ◌, clash_ℤ}
 use Rattle.integer.specs.Fraction.{Fraction, ◌≈◌, ◌≤ℚ◌, ◌<ℚ◌, ◌+ℚ◌, ◌*ℚ◌, neg_ℚ, over, whole, exchange, reciprocal, ◌/ℚ◌}
 use Rattle.integer.proofs.Ring.{CommutativeRing, var, con, ◌⊕◌, ◌⊗◌, neg, ◌≐◌}
 use Rattle.integer.proofs.IntegerRing.{ring_ℤ}
@@ -216,6 +217,13 @@ ordered_fractions =
 -- ---- below
 pub ≤ℚ_of-<ℚ : {x y : Fraction} → x <ℚ y → x ≤ℚ y
 ≤ℚ_of-<ℚ h = record { cross = ≤ℤ_of-<ℤ h.cross }
+
+pub below? : (x y : Fraction) → Dec (x <ℚ y)
+below? x y = by_test (lt_z (x.upper *ℤ y.lower) (y.upper *ℤ x.lower)) refl
+  where
+    by_test : (b : Bool) → lt_z (x.upper *ℤ y.lower) (y.upper *ℤ x.lower) ≡ b → Dec (x <ℚ y)
+    by_test true e = yes (record { cross = lt_z_yes (subst T (sym e) tt) })
+    by_test false e = no (λ h. subst T e h.cross.lt)
 
 pub not_below_of-≤ℚ : {x y : Fraction} → y ≤ℚ x → ¬ (x <ℚ y)
 not_below_of-≤ℚ h k = clash_ℤ k.cross h.cross

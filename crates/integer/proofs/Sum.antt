@@ -3,7 +3,7 @@
 use mathlib.Core.Path.{◌≡◌, sym, ◌∙◌, subst}
 use mathlib.Core.List.{List, [], ◌∷◌, ◌++◌, map}
 use mathlib.Core.Logic.{◌≢◌, ◌⊎◌, inl, inr}
-use Prim.Native.Nat.{ℕ, zero, suc, ◌+◌, ◌≤◌, ◌<◌}
+use Prim.Native.Nat.{ℕ, zero, suc, ◌+◌, ◌*◌, ◌≤◌, ◌<◌}
 use native.Mathlib.Nat.{zero-add, suc-add}
 use native.Mathlib.Numerals.{add-one}
 use native.Mathlib.Omega.{arith}
@@ -12,6 +12,7 @@ use lib.Seq.{take-suc}
 use lib.IntN.{ℤ, pos, nat_abs, ◌+ℤ◌, ◌*ℤ◌}
 use Rattle.integer.specs.Fraction.{Fraction, ◌≈◌, whole, ◌*ℚ◌}
 use Rattle.integer.specs.Sum.{sum_abs, weighted_sum}
+use Rattle.integer.proofs.Absolute.{nat_abs_add, nat_abs_mul}
 use Rattle.integer.proofs.Ring.{CommutativeRing, con, ◌⊕◌, ◌⊖◌, ◌⊗◌, ◌≐◌, ring}
 use Rattle.integer.proofs.Certificate.{OrderedRing}
 use Rattle.integer.proofs.Bound.{Bound, bound_add, bound_mul, bound_cong, bound_whole}
@@ -21,6 +22,26 @@ use Rattle.integer.proofs.Fraction.{ring_of_fractions, ≈_refl, +ℚ_cong}
 pub sum_abs_append : (xs ys : List ℤ) → sum_abs (xs ++ ys) ≡ sum_abs xs + sum_abs ys
 sum_abs_append [] ys = sym (zero-add (sum_abs ys))
 sum_abs_append (x ∷ xs) ys = let h = sum_abs_append xs ys in omega arith
+
+-- number by number; where one list ends, the other's numbers stand alone
+abbrev pub add_lists : List ℤ → List ℤ → List ℤ
+add_lists [] ys = ys
+add_lists (x ∷ xs) [] = x ∷ xs
+add_lists (x ∷ xs) (y ∷ ys) = (x +ℤ y) ∷ add_lists xs ys
+
+-- each number times c
+abbrev pub scale_list : ℤ → List ℤ → List ℤ
+scale_list c [] = []
+scale_list c (x ∷ xs) = (c *ℤ x) ∷ scale_list c xs
+
+pub sum_abs_add : (xs ys : List ℤ) → sum_abs (add_lists xs ys) ≤ sum_abs xs + sum_abs ys
+sum_abs_add [] ys = omega arith
+sum_abs_add (x ∷ xs) [] = omega arith
+sum_abs_add (x ∷ xs) (y ∷ ys) = let h = sum_abs_add xs ys in let t = nat_abs_add x y in omega arith
+
+pub sum_abs_scale : (c : ℤ) (xs : List ℤ) → sum_abs (scale_list c xs) ≡ nat_abs c * sum_abs xs
+sum_abs_scale c [] = omega arith
+sum_abs_scale c (x ∷ xs) = let h = sum_abs_scale c xs in let t = nat_abs_mul c x in omega arith
 
 -- one element more of a list that is read from the front
 pub sum_abs_more : (xs : List ℤ) (i : ℕ) → i < length xs → sum_abs (take (i + 1) xs) ≡ sum_abs (take i xs) + nat_abs (get_or xs i (pos 0))

@@ -3,15 +3,16 @@
 use mathlib.Core.Path.{◌≡◌, refl, sym, ap, ◌∙◌, subst}
 use mathlib.Core.Logic.{◌≢◌, ◌↔◌}
 use mathlib.Core.Bool.{Bool, true, false}
-use Prim.Native.Nat.{ℕ, zero, suc, ◌*◌, ◌/◌, ◌%◌, ◌≤◌, ◌<◌, zero-le}
+use Prim.Native.Nat.{ℕ, zero, suc, ◌*◌, ◌/◌, ◌%◌, ◌^◌, ◌≤◌, ◌<◌, zero-le}
 use native.Mathlib.Nat.{div-add-mod', mod-lt, div-le_self, div-lt_self, le_of_suc-le-suc}
 use native.Mathlib.Omega.{arith}
+use lib.Bits.{bit_and, and_mask}
 use lib.Dec.{T}
 use lib.IntN.{ℤ, pos, negsuc, neg_ℤ, nat_abs, ◌+ℤ◌, ◌-ℤ◌, ◌*ℤ◌, neg_ℤ-neg_ℤ}
 use lib.Signed.{mag, mag_rem, lt_z, lt_z_yes, le_z_yes, quot_z, rem_z, ◌≤ℤ◌, ◌<ℤ◌}
 use mir.Syntax.{w64}
 use mir.Val.{SFits, to_z, of_z}
-use mir.ValLaws.{sfits_le}
+use mir.ValLaws.{sfits_le, to_z_pos}
 use Rattle.std.specs.Prelude.{IsTrue}
 use Rattle.integer.specs.Floor.{floor_quotient, floor_remainder}
 use Rattle.integer.proofs.Ring.{con, ◌⊕◌, ◌⊖◌, ◌⊗◌, neg, ◌≐◌}
@@ -20,7 +21,7 @@ use Rattle.integer.proofs.Linear.{lin_ℤ, ◌⊴◌, ◌⊲◌, ◌⇒◌, so}
 use Rattle.integer.proofs.Order.{≤_of_pos, <_of_pos, pos-≤ℤ, pos-<ℤ, product_nonneg}
 use Rattle.integer.proofs.Absolute.{nat_abs_neg, nat_abs_within, nat_abs_of_fits, above_low_end, fits_of_nat_abs}
 use Rattle.integer.proofs.Machine.{operation_gives, <ℤ_of_test, ≥ℤ_of_test}
-use Rattle.integer.proofs.Floor.{Divides, divides_turned, floor_unique, remainder_turned, nat_abs_remainder}
+use Rattle.integer.proofs.Floor.{Divides, remainder_by, divides_turned, floor_unique, remainder_turned, nat_abs_remainder}
 
 -- q and r are the floor quotient and remainder
 pub record RoundsDown (a d q r : ℤ) : Type 0 where
@@ -210,3 +211,13 @@ quotient_gives f g h = operation_gives quot_z f g h
 
 pub remainder_gives : {a d : ℤ} → SFits w64 a → SFits w64 d → to_z w64 (of_z w64 (rem_z (to_z w64 (of_z w64 a)) (to_z w64 (of_z w64 d)))) ≡ rem_z a d
 remainder_gives {a} {d} f g = operation_gives rem_z f g (sfits_le (mag_rem a d) f)
+
+-- ---- the low bits are the remainder by their power of 2
+low_bits : (a : ℤ) → SFits w64 a → of_z w64 a % 4096 ≡ remainder_by a 4096
+low_bits (pos n) f = refl
+low_bits (negsuc n) f = let h : n < 2 ^ 63 = f.sfits in omega arith
+
+pub masked_is_remainder : (a : ℤ) → SFits w64 a → to_z w64 (bit_and (of_z w64 a) 4095) ≡ pos (remainder_by a 4096)
+masked_is_remainder a f =
+    let e : bit_and (of_z w64 a) 4095 ≡ of_z w64 a % 4096 = and_mask (of_z w64 a) 12 in
+    rw e (to_z_pos w64 (of_z w64 a % 4096) (omega arith) ∙ ap pos (low_bits a f))

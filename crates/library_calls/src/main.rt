@@ -94,14 +94,22 @@ fn read_full(file: &mut impl Read, bytes: &mut [u8]) {
     let _ = streams::read_input(file, bytes);
 }
 
+// A hexadecimal digit; 0 of every byte but 0 to 9 and a to f, of the upper case too.
+fn digit(b: u8) -> u64 {
+    if b.is_ascii_uppercase() {
+        0
+    } else {
+        u64::from(char::from(b).to_digit(16).unwrap_or(0))
+    }
+}
+
 // The next field, as an unsigned number; 0 where the file has ended, so that the calls end there too.
 fn next(file: &mut impl Read) -> u64 {
     let mut field = [0u8; FIELD];
     read_full(file, &mut field);
-    field[..DIGITS].iter().fold(0, |value, &b| {
-        let digit = char::from(b).to_digit(16).unwrap_or(0);
-        (value << 4) | u64::from(digit)
-    })
+    field[..DIGITS]
+        .iter()
+        .fold(0, |value, &b| (value << 4) | digit(b))
 }
 
 // The next field, as a signed number.

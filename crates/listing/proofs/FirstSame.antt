@@ -1,4 +1,4 @@
--- The first row that is the same as a row: found at the first of those left, looked for behind it, or none left; and a bound of it.
+-- The first row that is the same as a row: found at the first of those left, or behind those that are not the same; a bound of it; and what a search over the earlier rows finds.
 use mathlib.Core.Path.{◌≡◌, refl, sym, ap, ◌∙◌}
 use Rattle.std.specs.Prelude.{Option, Some, None, MatchOption}
 use Rattle.std.specs.Option.{unwrap_or}
@@ -18,6 +18,10 @@ module _ (table : List ℤ) (count row : ℕ) where
   first_is_here : (from : ℕ) → from < row → (same_of table count from row).same ≡ true → first_among table count row from (row - from) ≡ from
   unfolding first_among
   first_is_here from h e = let n : row - from ≡ suc (row - suc from) = omega arith in rw (n, e)
+
+  pub first_is_none : (from : ℕ) → row ≤ from → first_among table count row from (row - from) ≡ 0
+  unfolding first_among
+  first_is_none from h = let n : row - from ≡ 0 = omega arith in rw n
 
   -- rows that are not the same are passed over
   none_before : (n m from : ℕ) → ((k : ℕ) → from ≤ k → k < from + n → (same_of table count k row).same ≡ false)

@@ -6,15 +6,16 @@ use Prim.Native.Nat.{ℕ, zero, suc, ◌+◌, ◌≤◌}
 use native.Mathlib.Nat.{add-zero}
 use native.Mathlib.Omega.{arith}
 use native.Mathlib.Decide.{ℕ_discrete}
-use borrow.Author.Tests.{eq-eqb, ne_eqb, eqb-false}
+use borrow.Author.Tests.{eq-eqb, eqb-true, ne_eqb, eqb-false}
 use lib.Dec.{eqb}
 use lib.ListN.{length, drop, length-drop, length-append}
 use Rattle.sheet.specs.Causes.{line_broken}
-use Rattle.sheet.specs.Lines.{zero_schedule, lines_left, names, width, store}
+use Rattle.sheet.specs.Lines.{zero_schedule, line_at, lines_left, names, width, store}
 use Rattle.sheet.specs.Tests.{fault}
 use Rattle.sheet.specs.Reading.{fields_at, starts, part_read, part_refused, values_read, and_then, read_as, read_line, read_lines, read_sheet}
 use Rattle.sheet.specs.declared.Schedule.{Schedule}
 use Rattle.sheet.specs.declared.Line.{Line}
+use Rattle.sheet.specs.declared.Line.TheVariants.{CountNames, CountLine, EndNames, EndLine, StepNames, StepLine}
 use Rattle.sheet.specs.Answers.{Fields, Part}
 use Rattle.sheet.proofs.Choice.{pick_elim}
 use Rattle.sheet.proofs.Prefix.{starts_sound}
@@ -89,6 +90,25 @@ lines_split (suc j) k n c s at =
       | yes z ↦ rw m (run_more (j + k) n c s at z ∙ lines_split j k (suc n) q.schedule s q.next ∙ rw (run_more j n c s at z, i))
       | no z ↦ rw m (run_stop (j + k) n c s at z ∙ rw (run_stop j n c s at z) (simp (ne_eqb q.refusal.number 0 z)))
     ]
+
+-- lines that were read end within the bytes
+pub lines_read : (k n : ℕ) (c : Schedule) (s : List ℕ) (at : ℕ) → at ≤ length s → (read_lines k n c s at).refusal.number ≡ 0 → PartRead s (read_lines k n c s at)
+unfolding read_lines
+lines_read zero n c s at h = λ z. record { whole = refl; upto = h }
+lines_read (suc k) n c s at h =
+    let q : Part = read_line n c s at in
+    pick_elim (λ (p : Part). p.refusal.number ≡ 0 → PartRead s p) (eqb q.refusal.number 0) _ _
+    (λ e. lines_read k (suc n) q.schedule s q.next (line_read (line_at c n) n c s at h (eqb-true q.refusal.number 0 e)).upto)
+    (λ e z. absurd (eqb-false q.refusal.number 0 e z))
+
+-- a line holds four numbers at the most
+pub width_small : (l : Line) → width l ≤ 4
+width_small CountNames = omega arith
+width_small CountLine = omega arith
+width_small EndNames = omega arith
+width_small (EndLine i) = omega arith
+width_small StepNames = omega arith
+width_small (StepLine i r) = omega arith
 
 -- the whole sheet, by the part that its first two lines make and the part that the others make
 module _ (s : List ℕ) where

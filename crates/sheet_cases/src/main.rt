@@ -24,16 +24,17 @@ fn next_byte(file: &mut impl Read) -> Option<u8> {
     }
 }
 
-// The length in front of a case.
+// The length in front of a case: a byte below `0` ends it, and any other counts for what it is above `0`.
 fn next_length(file: &mut impl Read) -> Option<usize> {
     let mut n: usize = 0;
     // byte by byte: only its end tells how long a length is, and the bytes behind it are the case's
     for _ in 0..LENGTH_ROOM {
-        let Some(digit) = sheet::digit(next_byte(file)?) else {
+        let b = next_byte(file)?;
+        if b < b'0' {
             return Some(n);
-        };
+        }
         if n < ROOM {
-            n = n * 10 + digit as usize;
+            n = n * 10 + usize::from(b - b'0');
         }
     }
     Some(n)

@@ -94,8 +94,11 @@ check_with_own-requires c =
     record {
       none = (y.owned, candidate_none c.args.x.now c.requires.none.0 c.root_candidate-z.ensures);
       small =
-          own_small y.squares y.own c.args.x.now c.args.least c.root_candidate-z.ensures refl c.square_error-bound.ensures d c.ceiling_quotient-own.ensures.value
-          c.requires.none.1 (measured_within m e) c.requires.least.0;
+          omega (
+            arith,
+            own_small y.squares y.own c.args.x.now c.args.least c.root_candidate-z.ensures refl c.square_error-bound.ensures d c.ceiling_quotient-own.ensures.value
+                c.requires.none.1 (measured_within m e) c.requires.least.0,
+          );
     }
 
 pub returns : goal.returns

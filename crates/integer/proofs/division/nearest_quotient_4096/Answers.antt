@@ -1,6 +1,7 @@
 -- `nearest_quotient_4096` meets its contract: a shift is the division rounded down; a number of halves leaves room for one more.
 use mathlib.Core.Path.{sym, ap, ◌∙◌}
 use mathlib.Core.Logic.{◌≢◌}
+use Prim.Native.Nat.{◌≤◌}
 use native.Mathlib.Omega.{arith}
 use lib.IntN.{ℤ, pos, nat_abs, ◌+ℤ◌}
 use lib.Signed.{shr_z, mag_shr}
@@ -23,20 +24,21 @@ half e = let n = ap nat_abs e in omega arith
 abbrev more : ℤ
 more = pos 1
 
-more_fits : (a : ℤ) → SFits w64 a → SFits w64 (shr_z a 2048 +ℤ more)
-more_fits a f =
+-- for one more there is room, and for none: that the sum fits does not rest on what is added
+added_fits : (a k : ℤ) → nat_abs k ≤ 1 → SFits w64 a → SFits w64 (shr_z a 2048 +ℤ k)
+added_fits a k h f =
     rw (shift_is_floor a 2048)
-    (fits_of_nat_abs (floor_quotient a (pos 2048) +ℤ more)
-    (omega (arith, nat_abs_add (floor_quotient a (pos 2048)) more, nat_abs_quotient_product a (pos 2048) half, nat_abs_of_fits a f)))
+    (fits_of_nat_abs (floor_quotient a (pos 2048) +ℤ k)
+    (omega (arith, h, nat_abs_add (floor_quotient a (pos 2048)) k, nat_abs_quotient_product a (pos 2048) half, nat_abs_of_fits a f)))
 
 pub overflow_add-result : goal.overflow_add-result
-overflow_add-result c = let f = c.ranges.a in rw (to_z-of_z w64 _ f, to_z-of_z w64 _ (halves_fit c.args.a f)) (more_fits c.args.a f)
+overflow_add-result c = let f = c.ranges.a in rw (to_z-of_z w64 _ f, to_z-of_z w64 _ (halves_fit c.args.a f)) (added_fits c.args.a _ (omega arith) f)
 
 pub returns-clause-value : goal.returns-clause-value
 returns-clause-value c =
     let a = c.args.a in
     let f = c.ranges.a in
-    let fits = more_fits a f in
+    let fits = added_fits a more (omega arith) f in
     rw (to_z-of_z w64 _ f, to_z-of_z w64 _ (halves_fit a f), to_z-of_z w64 _ fits, to_z-of_z w64 _ (sfits_le (mag_shr (shr_z a 2048 +ℤ more) 2) fits))
     (shift_is_floor _ 2 ∙ ap (λ z. floor_quotient (z +ℤ more) (pos 2)) (shift_is_floor a 2048) ∙ nearest_by_halves a 2048 (omega arith))
 
